@@ -1,5 +1,5 @@
 -- The days of the calendar are those that the test accepts, and later years have greater numbers.
-use Rattle.mail_dates.proofs.Words.{◌≡◌, ℕ, ◌≤◌, Bool, true, Some, None, refl, ap, sym, ◌∙◌, arith, ℤ, pos, negsuc, ◌≤ℤ◌, ◌<ℤ◌, unsigned_abs, to_z, w8, if◌then◌else◌, nat_tests, ints, days_from_civil, days_in_month, IsDate, epoch_day, IsYmd, days_in_month_bounds, days_from_civil-day_count, day_count-lt_year, signed_arith, is_civil_day, day_number}
+use Rattle.mail_dates.proofs.Words.{◌≡◌, ℕ, ◌≤◌, true, Some, None, refl, ◌∙◌, arith, ℤ, pos, negsuc, ◌≤ℤ◌, ◌<ℤ◌, unsigned_abs, to_z, w8, if◌then◌else◌, nat_tests, ints, days_from_civil, days_in_month, IsDate, epoch_day, IsYmd, days_in_month_bounds, days_from_civil-day_count, day_count-lt_year, signed_arith, is_civil_day, day_number}
 use Rattle.jiff_core.specs.declared.civil.date.Date.{Date}
 use Rattle.jiff_core.proofs.DateLemmas.{civil}
 
@@ -23,11 +23,7 @@ day_number_some year month day h = rw (civil_test year month day h) refl
 
 pub day_number_none : (year : ℤ) (month day : ℕ) → ¬ IsCivilDay year month day → day_number year month day ≡ None
 unfolding day_number
-day_number_none year month day not_civil = go (is_civil_day year month day) refl
-  where
-    go : (t : Bool) → is_civil_day year month day ≡ t → (if t then Some (days_from_civil year month day) else None)
-        ≡ None
-    go t h = grind (arith, civil_parts)
+day_number_none year month day not_civil = grind (arith, civil_parts)
 
 -- the same limits, as the calendar's own constructor tests them
 pub year_within : (year : ℤ) → unsigned_abs year ≤ 9999 → (negsuc 9998 ≤ℤ year) × (year ≤ℤ pos 9999)
@@ -40,12 +36,7 @@ pub civil_date : (year : ℤ) (month day : ℕ) → IsCivilDay year month day �
 civil_date year month day h =
     let long = days_in_month_bounds year month in
     let m : to_z w8 month ≡ pos month = omega (arith, ints, h.month_high) in
-    let d : to_z w8 day ≡ pos day = omega (arith, ints, h.day_high) in
-    rw (m, d) (
-      year_within year h.year_in,
-      (omega (arith, ints, h.month_low), omega (arith, ints, h.month_high)),
-      (omega (arith, ints, h.day_low), omega (arith, ints, h.day_high)),
-    )
+    grind (arith, to_z, ints, year_within)
 
 pub date_civil : (year : ℤ) (month day : ℕ) → month ≤ 12 → day ≤ 31 → IsDate year (to_z w8 month) (to_z w8 day)
     → IsCivilDay year month day
@@ -55,10 +46,7 @@ date_civil year month day few short h = grind (arith, to_z, ints, within_year)
 pub day_number_at : (year : ℤ) (month day : ℕ) (date : Date) (number : ℤ) → IsCivilDay year month day
     → IsYmd year (to_z w8 month) (to_z w8 day) date → number ≡ epoch_day date → Some number ≡ day_number year month day
 day_number_at year month day date number h is e =
-    let long = days_in_month_bounds year month in
-    let m : date.month ≡ month = omega (arith, ints, is.1, h.month_high) in
-    let d : date.day ≡ day = omega (arith, ints, is.2, h.day_high) in
-    ap Some (e ∙ rw (is.0, m, d) refl) ∙ sym (day_number_some year month day h)
+    grind (arith, days_in_month_bounds, ints, day_number_some)
 
 -- a day with a number is a day of the calendar
 pub record IsNumbered (year : ℤ) (month day : ℕ) (number : ℤ) : Type 0 where
@@ -68,25 +56,17 @@ pub record IsNumbered (year : ℤ) (month day : ℕ) (number : ℤ) : Type 0 whe
 pub numbered : (year : ℤ) (month day : ℕ) (number : ℤ) → day_number year month day ≡ Some number
     → IsNumbered year month day number
 unfolding day_number
-numbered year month day number e = go (is_civil_day year month day) refl e
-  where
-    go : (t : Bool) → is_civil_day year month day ≡ t → (if t then Some (days_from_civil year month day) else None)
-        ≡ Some number → IsNumbered year month day number
-    go t h h2 = grind (arith, civil, civil_parts)
+numbered year month day number e = grind (arith, civil, civil_parts)
 
 -- a day of a later year has a greater number
 pub later_number : (date : Date) (next : ℤ) (month day : ℕ) (number : ℤ) → date.year <ℤ next → day_number next month day
     ≡ Some number → epoch_day date <ℤ number
 later_number date next month day number later e =
-    let n = numbered next month day number e in
-    let far = day_count-lt_year date.year date.month date.day next month day (civil date) n.civil.day_low later in
-    let is : number ≡ days_from_civil next month day = n.is in
-    omega (arith, signed_arith, days_from_civil-day_count, far, is)
+    let n = numbered _ _ _ _ e in
+    grind (arith, day_count-lt_year, civil, signed_arith, days_from_civil-day_count)
 
 -- no day after the year 9999 has a number
 pub none_later : (next : ℤ) (month day : ℕ) (number : ℤ) → pos 9999 <ℤ next → day_number next month day ≡ Some number
     → ⊥
 none_later next month day number later e =
-    let n = numbered next month day number e in
-    let within = year_within next n.civil.year_in in
-    omega (arith, signed_arith, within.1)
+    grind (arith, numbered, year_within, signed_arith)

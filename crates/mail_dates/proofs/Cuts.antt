@@ -34,4 +34,4 @@ module _ (p : ℕ → Bool) where
       → slice_split p ys ≡ second ∷ slice_split p zs → slice_split p zs ≡ third ∷ slice_split p ws → (fourth : List ℕ)
       × (rest : List (List ℕ)) × (slice_split p xs ≡ first ∷ second ∷ third ∷ fourth ∷ rest)
   split_four xs first ys second zs third ws e f g = let front = split_front ws
-      in (front.0, front.1, rw (e, f, g, front.2) refl)
+      in grind arith

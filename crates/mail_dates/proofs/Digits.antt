@@ -8,12 +8,7 @@ pub record IsDigit (b : ℕ) : Type 0 where
   pub value : digit_value b ≡ b - 48
 
 pub digit_is : (b : ℕ) → is_ascii_digit b ≡ true → IsDigit b
-digit_is b e = record {
-  low = grind (arith, nat_tests);
-  high = grind (arith, nat_tests);
-  value =
-      grind (arith, nat_tests);
-}
+digit_is b e = grind (arith, nat_tests)
 
 and_true : (a b : Bool) → (a && b) ≡ true → (a ≡ true) × (b ≡ true)
 and_true a b h = grind arith
@@ -21,6 +16,6 @@ and_true a b h = grind arith
 -- the element at each place is a digit
 pub digit_at : (xs : List ℕ) (i : ℕ) → list_all is_ascii_digit xs ≡ true → i < length xs → IsDigit (get_or xs i 0)
 digit_at [] i e h = absurd (omega arith)
-digit_at (x ∷ xs) zero e h = digit_is x (and_true (is_ascii_digit x) (list_all is_ascii_digit xs) e).0
-digit_at (x ∷ xs) (suc i) e h = digit_at xs i (and_true (is_ascii_digit x) (list_all is_ascii_digit xs) e).1
+digit_at (x ∷ xs) zero e h = grind (arith, digit_is, and_true)
+digit_at (x ∷ xs) (suc i) e h = digit_at xs i (and_true _ _ e).1
     (omega arith)

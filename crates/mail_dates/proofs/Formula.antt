@@ -1,5 +1,5 @@
 -- Day numbers by a formula, with which long tables can be computed.
-use Rattle.mail_dates.proofs.Words.{◌≡◌, ℕ, suc, ◌+◌, ◌≤◌, Bool, true, false, Option, Some, None, refl, arith, ℤ, pos, ◌+ℤ◌, ◌-ℤ◌, unsigned_abs, nat_le, if◌then◌else◌, nat_tests, ints, days_from_civil, days_from_civil-day_count, signed_arith, is_civil_day, day_number}
+use Rattle.mail_dates.proofs.Words.{◌≡◌, ℕ, suc, ◌+◌, ◌≤◌, Option, Some, None, arith, ℤ, pos, ◌+ℤ◌, ◌-ℤ◌, unsigned_abs, nat_le, if◌then◌else◌, nat_tests, ints, days_from_civil, days_from_civil-day_count, signed_arith, is_civil_day, day_number}
 use Rattle.jiff_core.specs.March.{march_days, march_months}
 use Rattle.jiff_core.proofs.MarchLemmas.{day_count-late, day_count-early}
 use Rattle.mail_dates.proofs.CivilDays.{IsCivilDay, civil_parts}
@@ -34,7 +34,7 @@ late : (year : ℤ) (month day : ℕ) → IsCivilDay year month day → 3 ≤ mo
     ≡ march_count (year +ℤ pos 10000) month day
 late year month day h high =
     let place : year +ℤ pos 10000 ≡ pos (unsigned_abs (year +ℤ pos 10000)) =
-    shifted year 10000 (omega (arith, h.year_in)) in
+    grind (arith, shifted) in
     omega (
       arith,
       signed_arith,
@@ -44,20 +44,11 @@ late year month day h high =
 
 march_number_is : (year : ℤ) (month day : ℕ) → IsCivilDay year month day → days_from_civil year month day
     ≡ march_number year month day
-march_number_is year month day h = go (nat_le month 2) refl
-  where
-    go : (t : Bool) → nat_le month 2 ≡ t → days_from_civil year month day
-        ≡ (if t then march_count (year +ℤ pos 9999) (month + 12) day else march_count (year +ℤ pos 10000) month day)
-    go true e = early year month day h (grind (arith, nat_tests))
-    go false e = late year month day h (grind (arith, nat_tests))
+march_number_is year month day h = grind (arith, nat_le, early, nat_tests, late)
 
 day_number_is : (year : ℤ) (month day : ℕ) → day_number year month day ≡ number_by_formula year month day
 unfolding day_number
-day_number_is year month day = go (is_civil_day year month day) refl
-  where
-    go : (t : Bool) → is_civil_day year month day ≡ t → (if t then Some (days_from_civil year month day) else None)
-        ≡ (if t then Some (march_number year month day) else None)
-    go t h = grind (arith, march_number_is, civil_parts)
+day_number_is year month day = grind (arith, march_number_is, civil_parts)
 
 pub day_number-formula : day_number ≡ number_by_formula
-day_number-formula = λ i. λ year month day. day_number_is year month day i
+day_number-formula = grind (arith, day_number_is)

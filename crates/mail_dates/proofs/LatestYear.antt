@@ -1,5 +1,5 @@
 -- The search from a year downwards finds the latest year that passes.
-use Rattle.mail_dates.proofs.Words.{◌≡◌, ℕ, zero, suc, ◌<◌, ◌≤◌, Bool, true, false, Option, Some, None, refl, sym, ap, ◌∙◌, subst, arith, ℤ, pos, negsuc, ◌+ℤ◌, ◌-ℤ◌, ◌≤ℤ◌, ◌<ℤ◌, unsigned_abs, ◌↔◌, option_map, IsTrue, int_le, ints, ◌>>=◌, day_number, greatest_below, year_at, latest_year, IsLatestYear, HasNoLater, days_from_to, days_in_by, latest_days_by, begin_by, fit_by}
+use Rattle.mail_dates.proofs.Words.{◌≡◌, ℕ, zero, suc, ◌<◌, ◌≤◌, Bool, true, false, Option, Some, None, refl, ◌∙◌, arith, ℤ, pos, negsuc, ◌+ℤ◌, ◌-ℤ◌, ◌≤ℤ◌, ◌<ℤ◌, unsigned_abs, ◌↔◌, option_map, IsTrue, int_le, ints, ◌>>=◌, day_number, greatest_below, year_at, latest_year, IsLatestYear, HasNoLater, days_from_to, days_in_by, latest_days_by, begin_by, fit_by}
 use Rattle.mail_dates.specs.declared.days.DaysOfYear.{DaysOfYear}
 use Rattle.mail_dates.specs.declared.days.DaysOfYear.TheVariants as days
 use Rattle.mail_dates.proofs.CivilDays.{year_within, numbered}
@@ -28,8 +28,8 @@ module _ (passes : ℤ → Bool) where
   pub latest_skipped : (year : ℤ) → negsuc 9998 ≤ℤ year → passes year ≡ false → latest_up_to year passes
       ≡ latest_up_to (year -ℤ pos 1) passes
   latest_skipped year low e =
-      let p = placed year low in
-      let here : passes (year_at p.n) ≡ false = rw p.is e in rw (p.at, p.before, here) refl
+      let p = placed _ low in
+      grind arith
 
   pub latest_none : latest_up_to (negsuc 9999) passes ≡ None
   latest_none = refl
@@ -37,18 +37,18 @@ module _ (passes : ℤ → Bool) where
   -- the years after this one can be left out, if none of them passes
   pub latest_from : (k : ℕ) (year : ℤ) → negsuc 9998 ≤ℤ year → ((next : ℤ) → year <ℤ next → passes next ≡ false)
       → latest_up_to (year +ℤ pos k) passes ≡ latest_up_to year passes
-  latest_from zero year low no_later = let same : year +ℤ pos 0 ≡ year = omega (arith, ints) in rw same refl
+  latest_from zero year low no_later = grind (arith, ints)
   latest_from (suc k) year low no_later =
       let before : (year +ℤ pos (suc k)) -ℤ pos 1 ≡ year +ℤ pos k = omega (arith, ints) in
-      latest_skipped (year +ℤ pos (suc k)) (omega (arith, ints)) (no_later (year +ℤ pos (suc k)) (omega (arith, ints)))
-      ∙ rw before (latest_from k year low no_later)
+      latest_skipped _ (omega (arith, ints)) (no_later (year +ℤ pos (suc k)) (omega (arith, ints)))
+      ∙ rw before (latest_from k _ low no_later)
 
   pub latest_year_from : (year : ℤ) → negsuc 9998 ≤ℤ year → year ≤ℤ pos 9999
       → ((next : ℤ) → year <ℤ next → passes next ≡ false) → latest_year passes ≡ latest_up_to year passes
   latest_year_from year low high no_later =
       let k : ℕ = unsigned_abs (pos 9999 -ℤ year) in
       let top : year +ℤ pos k ≡ pos 9999 = rest year high in
-      rw top at (latest_from k year low no_later)
+      rw top at (latest_from k _ low no_later)
     where
       rest : (year : ℤ) → year ≤ℤ pos 9999 → year +ℤ pos (unsigned_abs (pos 9999 -ℤ year)) ≡ pos 9999
       rest year h = grind (arith, ints)
@@ -68,9 +68,9 @@ begins_later by year next month date last h later = go (day_number next month da
 
 pub none_later_begins : (by year : ℤ) (which : DaysOfYear) → HasNoLater by year → (next : ℤ) → year <ℤ next
     → begin_by by (days_in_by day_number which next) ≡ false
-none_later_begins by year days.All h next later = begins_later by year next 1 1 _ h later
-none_later_begins by year (days.Month month) h next later = begins_later by year next month 1 _ h later
-none_later_begins by year (days.Day month day) h next later = begins_later by year next month day _ h later
+none_later_begins by year days.All h next later = begins_later by _ _ 1 1 _ h later
+none_later_begins by year (days.Month month) h next later = begins_later by _ _ _ 1 _ h later
+none_later_begins by year (days.Day month day) h next later = begins_later by _ _ _ _ _ h later
 
 -- the search has come down to this year, and no year above it fits
 pub record IsSearch (which : DaysOfYear) (by year : ℤ) : Type 0 where
@@ -82,7 +82,7 @@ pub search_start : (which : DaysOfYear) (by year : ℤ) → HasNoLater by year �
 search_start which by year h = record {
   low = let low = h.low in omega (arith, ints);
   high = h.high;
-  latest = latest_year_from (fit_by day_number which by) year h.low h.high (none_later_begins by year which h);
+  latest = latest_year_from _ year h.low h.high (none_later_begins by _ _ h);
 }
 
 pub search_next : (which : DaysOfYear) (by year next : ℤ) → IsSearch which by year → negsuc 9998 ≤ℤ year
@@ -98,17 +98,14 @@ pub search_found : (which : DaysOfYear) (by year : ℤ) → IsSearch which by ye
     ≡ latest_days_by day_number which by
 unfolding latest_days_by
 search_found which by year h low e =
-    sym (ap (λ (o : Option ℤ). o >>= days_in_by day_number which)
-    (h.latest ∙ latest_found (fit_by day_number which by) year low e))
+    grind (arith, latest_found)
 
 pub search_over : (which : DaysOfYear) (by year : ℤ) → IsSearch which by year → year <ℤ negsuc 9998 → None
     ≡ latest_days_by day_number which by
 unfolding latest_days_by
 search_over which by year h over =
     let end : year ≡ negsuc 9999 = let low = h.low in omega (arith, ints) in
-    let none : latest_up_to year (fit_by day_number which by) ≡ None = rw end (latest_none (fit_by day_number which by))
-    in
-    sym (ap (λ (o : Option ℤ). o >>= days_in_by day_number which) (h.latest ∙ none))
+    grind (arith, latest_none)
 
 -- ---- the year found is the latest, and the latest is found
 
@@ -135,10 +132,7 @@ pub latest_is : (passes : ℤ → Bool) (year : ℤ) → AreOfCalendar passes �
 latest_is passes year calendar e =
     let f = found_year (greatest_below 19999 (λ n. passes (year_at n))) year e in
     let g = greatest_is 19999 (λ n. passes (year_at n)) f.0 f.1 in
-    record {
-      has = subst (λ (y : ℤ). passes y ≡ true) f.2 g.has;
-      latest = λ other h. go other h (placed other (calendar other h).0) f.0 f.2 g;
-    }
+    grind (arith, go, placed)
   where
     go : (other : ℤ) → passes other ≡ true → IsPlaced other → (m : ℕ) → year_at m ≡ year
         → IsGreatest (λ n. passes (year_at n)) 19999 m → other ≤ℤ year
@@ -146,18 +140,18 @@ latest_is passes year calendar e =
         let high : other ≤ℤ pos 9999 = (calendar other h).1 in
         let at : place other ≡ suc p.n = p.at in
         let is : year_at p.n ≡ other = p.is in
-        let most : p.n ≤ m = g.most p.n (omega (arith, ints)) (subst (λ (y : ℤ). passes y ≡ true) (sym is) h) in
+        let most : p.n ≤ m = grind (arith, ints) in
         omega (arith, ints)
 
 pub is_latest : (passes : ℤ → Bool) (year : ℤ) → AreOfCalendar passes → IsLatestYear passes year → latest_year passes
     ≡ Some year
 is_latest passes year calendar h =
     let within = calendar year h.has in
-    latest_year_from passes year within.0 within.1 (λ next later. not_later next later (passes next) refl)
+    latest_year_from _ year within.0 within.1 (λ next later. not_later next later (passes next) refl)
     ∙ latest_found passes year within.0 h.has
   where
     not_later : (next : ℤ) → year <ℤ next → (t : Bool) → passes next ≡ t → t ≡ false
-    not_later next later true e = let below : next ≤ℤ year = h.latest next e in absurd (omega (arith, ints))
+    not_later next later true e = grind (arith, ints)
     not_later next later false e = refl
 
 -- a year that has days is a year of the calendar
@@ -166,13 +160,11 @@ of_calendar : (by year : ℤ) (month date : ℕ) (last : Option ℤ)
 of_calendar by year month date last h = grind (arith, year_within, numbered)
 
 pub fits_are_of_calendar : (which : DaysOfYear) (by : ℤ) → AreOfCalendar (fit_by day_number which by)
-fits_are_of_calendar days.All by year h = of_calendar by year 1 1 _ h
-fits_are_of_calendar (days.Month month) by year h = of_calendar by year month 1 _ h
-fits_are_of_calendar (days.Day month day) by year h = of_calendar by year month day _ h
+fits_are_of_calendar which by year h = grind (arith, of_calendar)
 
 pub latest_year_law : (which : DaysOfYear) (by year : ℤ)
     → (latest_year (fit_by day_number which by) ≡ Some year) ↔ IsLatestYear (fit_by day_number which by) year
 latest_year_law which by year = (
-  latest_is (fit_by day_number which by) year (fits_are_of_calendar which by),
-  is_latest (fit_by day_number which by) year (fits_are_of_calendar which by),
+  latest_is _ _ (fits_are_of_calendar _ by),
+  is_latest _ _ (fits_are_of_calendar _ by),
 )

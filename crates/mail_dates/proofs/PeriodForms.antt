@@ -1,7 +1,7 @@
 -- The forms of periods exclude one another, because they differ in the number of digits and of other bytes, and in
 -- whether a digit comes first.
-use Rattle.mail_dates.proofs.Words.{◌≡◌, ℕ, zero, suc, ◌+◌, ◌≤◌, ◌<◌, Bool, true, false, cond, ◌&&◌, ◌==◌, nat_le, List, [], ◌∷◌, ◌++◌, length, get_or, Option, Some, None, refl, sym, ap, ◌∙◌, arith, ℤ, list_all, nat_tests, if◌then◌else◌, number_in, month_of, option_map, position}
-use Rattle.std.specs.Char.{is_ascii_digit, is_ascii_alphabetic, to_ascii_lowercase}
+use Rattle.mail_dates.proofs.Words.{◌≡◌, ℕ, zero, suc, ◌+◌, ◌≤◌, ◌<◌, Bool, true, false, cond, ◌&&◌, ◌==◌, nat_le, List, [], ◌∷◌, ◌++◌, length, get_or, Option, Some, None, refl, ap, ◌∙◌, arith, ℤ, list_all, nat_tests, if◌then◌else◌, number_in, month_of, option_map}
+use Rattle.std.specs.Char.{is_ascii_digit, is_ascii_alphabetic}
 use Rattle.std.specs.Str.{str_to_ascii_lowercase, str_eq_ignore_ascii_case}
 use Rattle.std.proofs.Common.{length-append}
 use Rattle.std.proofs.lemmas.List.Quantifiers.{position-Some}
@@ -35,16 +35,13 @@ no_digits [] h = refl
 no_digits (x ∷ xs) h = grind (arith, nat_tests, no_digits xs)
 
 begins-append : (xs ys : List ℕ) → 1 ≤ length xs → begins_with_digit (xs ++ ys) ≡ begins_with_digit xs
-begins-append [] ys h = absurd (omega (arith, h))
-begins-append (x ∷ xs) ys h = refl
+begins-append xs ys h = grind arith
 
 digit_first : (xs : List ℕ) → 1 ≤ length xs → list_all is_ascii_digit xs ≡ true → begins_with_digit xs ≡ true
-digit_first [] h e = absurd (omega (arith, h))
-digit_first (x ∷ xs) h e = grind arith
+digit_first xs h h2 = grind arith
 
 letter_first : (xs : List ℕ) → 1 ≤ length xs → list_all is_ascii_alphabetic xs ≡ true → begins_with_digit xs ≡ false
-letter_first [] h e = absurd (omega (arith, h))
-letter_first (x ∷ xs) h e = grind (arith, nat_tests)
+letter_first xs h h2 = grind (arith, nat_tests)
 
 -- ---- the parts of periods
 
@@ -69,10 +66,7 @@ pub record IsName (text : List ℕ) : Type 0 where
 same_letters : (text : List ℕ)
     → list_all is_ascii_alphabetic (str_to_ascii_lowercase text) ≡ list_all is_ascii_alphabetic text
 same_letters [] = refl
-same_letters (b ∷ bs) = rw (same_letter b, same_letters bs) refl
-  where
-    same_letter : (b : ℕ) → is_ascii_alphabetic (to_ascii_lowercase b) ≡ is_ascii_alphabetic b
-    same_letter b = grind (arith, nat_tests)
+same_letters (b ∷ bs) = grind (arith, nat_tests, same_letters bs)
 
 same_length : (text : List ℕ) → length (str_to_ascii_lowercase text) ≡ length text
 same_length [] = refl
@@ -95,18 +89,17 @@ found o n e = grind arith
 lower_name : (text : List ℕ) → is_lower_name (str_to_ascii_lowercase text) ≡ true → IsName text
 unfolding is_lower_name
 lower_name text e =
-    record { three = grind (arith, nat_tests, same_length); letters = grind (arith, nat_tests, same_letters) }
+    grind (arith, nat_tests, same_length, same_letters)
 
 pub name_is : (text : List ℕ) (month : ℕ) → month_of text ≡ Some month → IsName text
 unfolding month_of is_lower_name
 name_is text month e =
-    let f = found (position (str_eq_ignore_ascii_case text) month_names) month e in
+    let f = found _ _ e in
     let at = position-Some (str_eq_ignore_ascii_case text) month_names f.0 [] f.1 in
     let name : List ℕ = get_or month_names f.0 [] in
     let same : str_to_ascii_lowercase text ≡ str_to_ascii_lowercase name =
-    (bytes_eq-Decides (str_to_ascii_lowercase text) (str_to_ascii_lowercase name)).0 at.1 in
-    lower_name text (ap is_lower_name same
-    ∙ passes_at (λ m. is_lower_name (str_to_ascii_lowercase m)) month_names f.0 refl at.0)
+    grind (arith, bytes_eq-Decides) in
+    lower_name _ (cc (same, passes_at (λ m. is_lower_name (str_to_ascii_lowercase m)) month_names _ refl at.0))
 
 -- ---- the form, by the number of digits and of other bytes, and by whether a digit comes first
 
@@ -143,83 +136,39 @@ record IsCount (text : List ℕ) (digits : ℕ) : Type 0 where
 
 count_is : (digits : List ℕ) (letter : ℕ) → list_all is_ascii_digit digits ≡ true
     → is_ascii_alphabetic letter ≡ true → IsCount (digits ++ letter ∷ []) (length digits)
-count_is digits letter h e = record {
-  count = omega (
-    arith,
-    digits_in-append digits (letter ∷ []),
-    all_digits digits h,
-    no_digits (letter ∷ []) (rw e refl),
-  );
-  whole = omega (arith, length-append digits (letter ∷ []));
-}
+count_is digits letter h e = grind (arith, digits_in-append, all_digits, no_digits, length-append)
 
 pub formed : (today by : ℤ) (text : List ℕ) (form : Form) (days : Option Days) → IsPeriod today by text form days
     → form_of text ≡ Some form
 formed today by text form days (CountOfUnits digits count letter unit e u) =
     let n = number_is 1 4 digits count e in
     let c = count_is digits letter n.digits (unit_letter letter unit u) in
-    days_ago (digits ++ letter ∷ []) (c.whole ∙ ap (λ k. k + 1) (sym c.count)) (omega (arith, c.count, n.high))
+    grind (arith, days_ago)
 formed today by text form days (YearMonthDay yyyy mm dd year month day e f g) =
     let y = number_is 4 4 yyyy year e in
     let m = number_is 2 2 mm month f in
     let d = number_is 2 2 dd day g in
-    full_date (yyyy ++ (mm ++ dd)) (omega (
-      arith,
-      length-append yyyy (mm ++ dd),
-      length-append mm dd,
-      y.low,
-      y.high,
-      m.low,
-      m.high,
-      d.low,
-      d.high,
-    ))
-    (omega (
-      arith,
-      digits_in-append yyyy (mm ++ dd),
-      digits_in-append mm dd,
-      all_digits yyyy y.digits,
-      all_digits mm m.digits,
-      all_digits dd d.digits,
-      y.low,
-      y.high,
-      m.low,
-      m.high,
-      d.low,
-      d.high,
-    ))
+    grind (arith, full_date, length-append, digits_in-append, all_digits)
 formed today by text form days (Year yyyy year e) =
-    let y = number_is 4 4 yyyy year e in
-    whole_year yyyy (omega (arith, y.low, y.high)) (omega (arith, all_digits yyyy y.digits, y.low, y.high))
+    grind (arith, number_is, whole_year, all_digits)
 formed today by text form days (Month name month e) =
     let n = name_is name month e in named_month name n.three (no_digits name n.letters)
 formed today by text form days (DayMonth digits name day month d e) =
     let n = name_is name month e in
     let k = day_is digits day d in
-    let first : begins_with_digit (digits ++ name) ≡ true = begins-append digits name k.low
-    ∙ digit_first digits k.low k.digits in
-    let count : digits_in (digits ++ name) ≡ length digits =
-    omega (arith, digits_in-append digits name, all_digits digits k.digits, no_digits name n.letters) in
-    with_month (digits ++ name) (omega (arith, length-append digits name, count, n.three)) (omega (arith, count, k.low))
-    ∙ rw first refl
+    grind (arith, begins-append, digit_first, digits_in-append, all_digits, no_digits, with_month, length-append)
 formed today by text form days (MonthDay name digits month day e d) =
     let n = name_is name month e in
     let k = day_is digits day d in
-    let long : 1 ≤ length name = omega (arith, n.three) in
-    let first : begins_with_digit (name ++ digits) ≡ false = begins-append name digits long
-    ∙ letter_first name long n.letters in
-    let count : digits_in (name ++ digits) ≡ length digits =
-    omega (arith, digits_in-append name digits, all_digits digits k.digits, no_digits name n.letters) in
-    with_month (name ++ digits) (omega (arith, length-append name digits, count, n.three)) (omega (arith, count, k.low))
-    ∙ rw first refl
+    grind (arith, begins-append, letter_first, digits_in-append, all_digits, no_digits, with_month, length-append)
 
 pub same_form : (today by : ℤ) (text : List ℕ) (f g : Form) (d e : Option Days) → IsPeriod today by text f d
     → IsPeriod today by text g e → f ≡ g
 same_form today by text f g d e h k =
-    let same : Some f ≡ Some g = sym (formed today by text f d h) ∙ formed today by text g e k in cc
+    grind (arith, formed)
 
 -- a count that is too long has none of the forms
 pub no_form : (text : List ℕ) → IsLongCount text → form_of text ≡ None
 no_form text (DigitsAndUnit digits letter unit many h u) =
     let c = count_is digits letter h (unit_letter letter unit u) in
-    too_long (digits ++ letter ∷ []) (c.whole ∙ ap (λ k. k + 1) (sym c.count)) (omega (arith, c.count, many))
+    grind (arith, too_long)

@@ -1,6 +1,6 @@
 -- Periods are read as their grammar says.
 use Rattle.mail_dates.proofs.Words.{◌≡◌, ℕ, ◌-◌, ◌<◌, Bool, true, false, ◌&&◌, ◌==◌, List, [], ◌∷◌, ◌++◌, length, take, drop, Option, Some, None, Result, Ok, Err, refl, sym, ap, ◌∙◌, subst, arith, ℤ, pos, list_all, nat_tests, if◌then◌else◌, option_map, number_in, month_of, day_number, period_of, ◌>>=◌, DateFault, BadDate, BadNumber, ◌↔◌}
-use Rattle.std.specs.Prelude.{slice_get, slice_range, is_some, nat_lt, ok_or}
+use Rattle.std.specs.Prelude.{slice_range, is_some, nat_lt, ok_or}
 use Rattle.contract_words.specs.Answers.{◌>>=◌ as ◌>>=ᵣ◌}
 use Rattle.std.specs.Char.{is_ascii_digit}
 use Rattle.std.specs.Option.{option_or}
@@ -35,7 +35,7 @@ record IsCutAt (n : ℕ) (xs ys : List ℕ) : Type 0 where
   back : drop n (xs ++ ys) ≡ ys
 
 cut_at : (n : ℕ) (xs ys : List ℕ) → length xs ≡ n → IsCutAt n xs ys
-cut_at n xs ys e = rw (← e) (record { front = take-append_seam xs ys; back = drop-append_seam xs ys })
+cut_at n xs ys e = grind (arith, take-append_seam, drop-append_seam)
 
 last_place : (front : List ℕ) (letter : ℕ) → length (front ++ letter ∷ []) - 1 ≡ length front
 last_place front letter = omega (arith, length-append front (letter ∷ []))
@@ -43,12 +43,15 @@ last_place front letter = omega (arith, length-append front (letter ∷ []))
 last_unit-last : (front : List ℕ) (letter : ℕ) → last_unit (front ++ letter ∷ []) ≡ unit_of letter
 last_unit-last front letter =
     let below : length front < length (front ++ letter ∷ []) = omega (arith, length-append front (letter ∷ [])) in
-    ap (λ o. o >>= unit_of) (ap (slice_get (front ++ letter ∷ [])) (last_place front letter)
-    ∙ slice_get-get_or (front ++ letter ∷ []) (length front) 0 below ∙ ap Some (get_or-append_seam front letter [] 0))
+    cc (
+      last_place _ _,
+      slice_get-get_or (front ++ letter ∷ []) (length front) 0 below,
+      get_or-append_seam front letter [] 0,
+    )
 
 before_last : (front : List ℕ) (letter : ℕ) → before_last_letter (front ++ letter ∷ []) ≡ front
 before_last front letter =
-    ap (λ n. take n (front ++ letter ∷ [])) (last_place front letter) ∙ take-append_seam front (letter ∷ [])
+    grind (arith, last_place, take-append_seam)
 
 -- a text that isn't empty has a last byte
 last_of : (b : ℕ) (bs : List ℕ) → (front : List ℕ) × (last : ℕ) × (b ∷ bs ≡ front ++ last ∷ [])
@@ -74,14 +77,13 @@ month_first name digits month day e d =
 
 either : {P : Type 0} (a b : Option Period) (period : Period) → option_or a b ≡ Some period → (a ≡ Some period → P)
     → (b ≡ Some period → P) → P
-either None b period e f g = g e
-either (Some x) b period e f g = f e
+either a b period h h2 h3 = grind arith
 
 -- ---- counts that are too long
 
 is_long : (text : List ℕ) → has_long_count text ≡ true → IsLongCount text
 is_long [] e = absurd cc
-is_long (b ∷ bs) e = let l = last_of b bs in subst IsLongCount (sym l.2) (go l.0 l.1 (sym (ap has_long_count l.2) ∙ e))
+is_long (b ∷ bs) e = let l = last_of b bs in grind (arith, go)
   where
     at : (digits : List ℕ) (letter : ℕ) (unit : Option Unit) → unit_of letter ≡ unit
         → (is_some unit && nat_lt 4 (length digits) && list_all is_ascii_digit digits) ≡ true
@@ -93,12 +95,11 @@ is_long (b ∷ bs) e = let l = last_of b bs in subst IsLongCount (sym l.2) (go l
     go : (digits : List ℕ) (letter : ℕ) → has_long_count (digits ++ letter ∷ []) ≡ true
         → IsLongCount (digits ++ letter ∷ [])
     go digits letter e =
-        at digits letter (unit_of letter) refl (rw (last_unit-last digits letter, before_last digits letter) at e)
+        grind (arith, at, last_unit-last, before_last)
 
 long_is : (text : List ℕ) → IsLongCount text → has_long_count text ≡ true
 long_is text (DigitsAndUnit digits letter unit many h u) =
-    let more : nat_lt 4 (length digits) ≡ true = grind (arith, nat_tests) in
-    rw (last_unit-last digits letter, before_last digits letter, u, more, h) refl
+    grind (arith, nat_lt, nat_tests, last_unit-last, before_last)
 
 -- ---- the parts of periods that are read
 
@@ -131,8 +132,7 @@ date_parts text period e =
 
 date_text : (text : List ℕ) → take 4 text ++ (slice_range text 4 6 ++ drop 6 text) ≡ text
 date_text text =
-    ap (λ (t : List ℕ). take 4 text ++ t) (ap (λ (t : List ℕ). slice_range text 4 6 ++ t) (sym (drop-drop 2 4 text))
-    ∙ take-append-drop 2 (drop 4 text)) ∙ take-append-drop 4 text
+    grind (arith, drop-drop, take-append-drop)
 
 record YearlyParts (name digits : Option ℕ) (period : Period) : Type 0 where
   month : ℕ
@@ -155,7 +155,7 @@ module _ (today by : ℤ) where
   ago_of : (front : List ℕ) (letter : ℕ)
       → periods.ago (front ++ letter ∷ []) ≡
       (unit_of letter >>= (λ unit. number_in 1 4 front >>= (λ count. Some (Ago count unit))))
-  ago_of front letter = rw (last_unit-last front letter, before_last front letter) refl
+  ago_of front letter = grind (arith, last_unit-last, before_last)
 
   ago_read : (digits : List ℕ) (count letter : ℕ) (unit : Unit) → number_in 1 4 digits ≡ Some count
       → unit_of letter ≡ Some unit → periods.ago (digits ++ letter ∷ []) ≡ Some (Ago count unit)
@@ -173,15 +173,11 @@ module _ (today by : ℤ) where
       let long : length (yyyy ++ (mm ++ dd)) ≡ 8 =
       omega (arith, length-append yyyy (mm ++ dd), length-append mm dd, y.low, y.high, m.low, m.high, d.low, d.high)
       in
-      let front : take 4 (yyyy ++ (mm ++ dd)) ≡ yyyy = first.front in
-      let middle : slice_range (yyyy ++ (mm ++ dd)) 4 6 ≡ mm = ap (take 2) first.back ∙ second.front in
-      let back : drop 6 (yyyy ++ (mm ++ dd)) ≡ dd = sym (drop-drop 2 4 (yyyy ++ (mm ++ dd)))
-      ∙ (ap (drop 2) first.back ∙ second.back) in
-      rw (long, front, middle, back, e, f, g) refl
+      grind (arith, drop-drop)
 
   reads : (text : List ℕ) (form : Form) (said : Option Days) → IsPeriod today by text form said → Reads form text said
   reads text form said (CountOfUnits digits count letter unit e u) =
-      record { period = Ago count unit; is = ago_read digits count letter unit e u; has = refl }
+      grind (arith, ago_read)
   reads text form said (YearMonthDay yyyy mm dd year month day e f g) =
       record {
         period = InYear (pos year) (days.Day month day);
@@ -194,7 +190,7 @@ module _ (today by : ℤ) where
   reads text form said (DayMonth digits name day month d e) =
       record { period = Yearly (days.Day month day); is = day_first digits name day month d e; has = refl }
   reads text form said (MonthDay name digits month day e d) =
-      record { period = Yearly (days.Day month day); is = month_first name digits month day e d; has = refl }
+      grind (arith, month_first)
 
   -- ---- a text that is read has the form
 
@@ -212,47 +208,43 @@ module _ (today by : ℤ) where
 
   date_is : (text : List ℕ) (period : Period) → periods.full_date text ≡ Some period → Is FullDate text period
   date_is text period e =
-      let d = date_parts text period e in
-      subst (λ (t : List ℕ). Is FullDate t period) (date_text text)
-      (subst (Is FullDate (take 4 text ++ (slice_range text 4 6 ++ drop 6 text))) (sym d.is)
-      (YearMonthDay (take 4 text) (slice_range text 4 6) (drop 6 text) d.year d.month d.day d.yyyy d.mm d.dd))
+      let d = date_parts text _ e in
+      subst (λ (t : List ℕ). Is FullDate t period) (date_text _)
+      (rw d.is (YearMonthDay (take 4 text) (slice_range text 4 6) (drop 6 text) d.year d.month d.day d.yyyy d.mm d.dd))
 
   year_is : (text : List ℕ) (period : Period) → periods.whole_year text ≡ Some period → Is WholeYear text period
   year_is text period e =
-      let m = map_some (λ year. InYear (pos year) days.All) (number_in 4 4 text) period e
+      let m = map_some _ _ _ e
       in subst (Is WholeYear text) m.2 (Year text m.0 m.1)
 
   month_is : (text : List ℕ) (period : Period) → periods.yearly_month text ≡ Some period → Is NamedMonth text period
   month_is text period e =
-      let m = map_some (λ month. Yearly (days.Month month)) (month_of text) period e
+      let m = map_some _ _ _ e
       in subst (Is NamedMonth text) m.2 (Month text m.0 m.1)
 
   day_first_is : (n : ℕ) (text : List ℕ) (period : Period)
       → yearly_day (month_of (drop n text)) (day_of (take n text)) ≡ Some period → Is DayThenMonth text period
   day_first_is n text period e =
-      let p = yearly_parts (month_of (drop n text)) (day_of (take n text)) period e in
+      let p = yearly_parts _ _ _ e in
       subst (λ (t : List ℕ). Is DayThenMonth t period) (take-append-drop n text)
-      (subst (Is DayThenMonth (take n text ++ drop n text)) (sym p.is)
-      (DayMonth (take n text) (drop n text) p.day p.month p.named_day p.named_month))
+      (rw p.is (DayMonth (take n text) (drop n text) p.day p.month p.named_day p.named_month))
 
   month_first_is : (n : ℕ) (text : List ℕ) (period : Period)
       → yearly_day (month_of (take n text)) (day_of (drop n text)) ≡ Some period → Is MonthThenDay text period
   month_first_is n text period e =
-      let p = yearly_parts (month_of (take n text)) (day_of (drop n text)) period e in
+      let p = yearly_parts _ _ _ e in
       subst (λ (t : List ℕ). Is MonthThenDay t period) (take-append-drop n text)
-      (subst (Is MonthThenDay (take n text ++ drop n text)) (sym p.is)
-      (MonthDay (take n text) (drop n text) p.month p.day p.named_month p.named_day))
+      (rw p.is (MonthDay (take n text) (drop n text) p.month p.day p.named_month p.named_day))
 
   is_read : (form : Form) (text : List ℕ) (period : Period) → read form text ≡ Some period → Is form text period
   is_read DaysAgo [] period e = absurd cc
   is_read DaysAgo (b ∷ bs) period e =
-      let l = last_of b bs in subst (λ (t : List ℕ). Is DaysAgo t period) (sym l.2)
-      (ago_is l.0 l.1 period (ap periods.ago (sym l.2) ∙ e))
-  is_read FullDate text period e = date_is text period e
-  is_read WholeYear text period e = year_is text period e
-  is_read NamedMonth text period e = month_is text period e
-  is_read DayThenMonth text period e = day_first_is (length text - 3) text period e
-  is_read MonthThenDay text period e = month_first_is 3 text period e
+      let l = last_of b bs in grind (arith, ago_is)
+  is_read FullDate text period e = date_is _ _ e
+  is_read WholeYear text period e = year_is _ _ e
+  is_read NamedMonth text period e = month_is _ _ e
+  is_read DayThenMonth text period e = day_first_is _ _ _ e
+  is_read MonthThenDay text period e = month_first_is 3 _ _ e
 
   -- ---- the forms are tried in turn
 
@@ -268,8 +260,7 @@ module _ (today by : ℤ) where
       go : (o : Option Period) → read g text ≡ o → option_or o rest ≡ Some period
       go None k = h
       go (Some other) k =
-          sym k ∙ (ap (λ form. read form text)
-          (same_form today by text g f _ _ (is_read g text other k) (is_read f text period e)) ∙ e)
+          cc (same_form _ by _ g f _ _ (is_read g _ _ k) (is_read f _ _ e))
 
   chosen_is : (form : Form) (text : List ℕ) (period : Period) → read form text ≡ Some period → chosen text ≡ Some period
   unfolding chosen
@@ -296,11 +287,11 @@ module _ (today by : ℤ) where
   is_chosen text period e =
       let at : (form : Form) → read form text ≡ Some period → HasForm text period =
       λ form h. record { form = form; is = h } in
-      either (read DaysAgo text) _ period e (at DaysAgo)
-      (λ e. either (read FullDate text) _ period e (at FullDate)
-      (λ e. either (read WholeYear text) _ period e (at WholeYear)
-      (λ e. either (read NamedMonth text) _ period e (at NamedMonth)
-      (λ e. either (read DayThenMonth text) _ period e (at DayThenMonth) (at MonthThenDay)))))
+      either _ _ _ e (at DaysAgo)
+      (λ e. either _ _ _ e (at FullDate)
+      (λ e. either _ _ _ e (at WholeYear)
+      (λ e. either _ _ _ e (at NamedMonth)
+      (λ e. either _ _ _ e (at DayThenMonth) (at MonthThenDay)))))
 
   -- ---- the days that a text names
 
@@ -309,18 +300,12 @@ module _ (today by : ℤ) where
 
   not_long : (text : List ℕ) (form : Form) (said : Option Days) → IsPeriod today by text form said
       → has_long_count text ≡ false
-  not_long text form said h = go (has_long_count text) refl
-    where
-      go : (t : Bool) → has_long_count text ≡ t → t ≡ false
-      go false e = refl
-      go true e =
-          let none : None ≡ Some form = sym (no_form text (is_long text e)) ∙ formed today by text form said h
-          in absurd cc
+  not_long text form said h = grind (arith, no_form, is_long, formed)
 
   pub names_read : (text : List ℕ) (days : Days) → NamesDays today by text days → named text ≡ Ok days
   unfolding period_of chosen
   names_read text days n =
-      let r = reads text n.form (Some days) n.period in
+      let r = reads _ _ _ n.period in
       rw (not_long text n.form (Some days) n.period, chosen_is n.form text r.period r.is, r.has) refl
 
   pub long_read : (text : List ℕ) → IsLongCount text → named text ≡ Err BadNumber
@@ -342,7 +327,7 @@ module _ (today by : ℤ) where
   read_names text days e =
       let h = was_read (has_long_count text) text days e in
       let f = is_chosen text h.period h.is in
-      record { form = f.form; period = subst (IsPeriod today by text f.form) h.has (is_read f.form text h.period f.is) }
+      record { form = f.form; period = rw h.has at (is_read f.form text h.period f.is) }
 
   other_fault : (o : Option Period)
       → (ok_or o BadDate >>=ᵣ (λ period. ok_or (period_days_by day_number today by period) BadDate)) ≡ Err BadNumber
@@ -356,46 +341,33 @@ module _ (today by : ℤ) where
       go : (t : Bool) → has_long_count text ≡ t
           → ((if t then Err BadNumber else ok_or (chosen text) BadDate) >>=ᵣ
           (λ period. ok_or (period_days_by day_number today by period) BadDate)) ≡ Err BadNumber → IsLongCount text
-      go true h k = is_long text h
-      go false h k = absurd (other_fault (chosen text) k)
+      go t h h2 = grind (arith, is_long, other_fault)
 
   -- ---- the laws
 
   pub one_form : (text : List ℕ) (f g : Form) (d e : Option Days) → IsPeriod today by text f d
       → IsPeriod today by text g e → (f ≡ g) × (d ≡ e)
   one_form text f g d e h k =
-      (same, sym r.has ∙ (ap (period_days_by day_number today by) (same_some r.period s.period both) ∙ s.has))
-    where
-      same : f ≡ g
-      same = same_form today by text f g d e h k
-
-      r : Reads f text d
-      r = reads text f d h
-
-      s : Reads g text e
-      s = reads text g e k
-
-      both : Some r.period ≡ Some s.period
-      both = sym r.is ∙ (ap (λ form. read form text) same ∙ s.is)
+      grind (arith, same_some, same_form, reads)
 
   pub named_law : (text : List ℕ) (days : Days) → (named text ≡ Ok days) ↔ NamesDays today by text days
-  named_law text days = (read_names text days, names_read text days)
+  named_law text days = (read_names _ _, names_read _ _)
 
   pub refused_law : (text : List ℕ) (fault : DateFault) → (named text ≡ Err fault) ↔ IsRefusedPeriod today by text fault
   refused_law text fault = (refused fault, is_refused fault)
     where
       refused : (fault : DateFault) → named text ≡ Err fault → IsRefusedPeriod today by text fault
-      refused BadNumber e = LongCount (read_long text e)
+      refused BadNumber e = LongCount (read_long _ e)
       refused BadDate e =
-          NoPeriod (λ days n. let ok : Ok days ≡ Err BadDate = sym (names_read text days n) ∙ e in cc)
-          (λ long. let other : Err BadNumber ≡ Err BadDate = sym (long_read text long) ∙ e in cc)
+          NoPeriod (λ days n. let ok : Ok days ≡ Err BadDate = sym (names_read _ _ n) ∙ e in cc)
+          (λ long. let other : Err BadNumber ≡ Err BadDate = sym (long_read _ long) ∙ e in cc)
 
       go : (r : Result Days DateFault) → named text ≡ r → ((days : Days) → NamesDays today by text days → ⊥)
           → (IsLongCount text → ⊥) → named text ≡ Err BadDate
-      go (Ok days) e h k = absurd (h days (read_names text days e))
+      go (Ok days) e h k = absurd (h days (read_names _ _ e))
       go (Err BadDate) e h k = e
-      go (Err BadNumber) e h k = absurd (k (read_long text e))
+      go (Err BadNumber) e h k = absurd (k (read_long _ e))
 
       is_refused : (fault : DateFault) → IsRefusedPeriod today by text fault → named text ≡ Err fault
-      is_refused fault (LongCount long) = long_read text long
+      is_refused fault (LongCount long) = long_read _ long
       is_refused fault (NoPeriod h k) = go (named text) refl h k

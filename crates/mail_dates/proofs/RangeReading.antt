@@ -1,7 +1,7 @@
 -- Ranges of days are read as their grammar says.
-use Rattle.mail_dates.proofs.Words.{◌≡◌, ℕ, Bool, true, false, cond, List, [], ◌∷◌, ◌++◌, Some, None, Result, Ok, Err, refl, sym, ap, ◌∙◌, subst, arith, ℤ, pos, ◌↔◌, list_all, nat_tests, day_number, number_in, month_of, period_of, slice_split, onto_first, is_dash, range_at, range_of_parts_by, DateFault, BadDate, BadNumber, Range, start_of_day, end_of_day, Option}
+use Rattle.mail_dates.proofs.Words.{◌≡◌, ℕ, Bool, true, false, cond, List, [], ◌∷◌, ◌++◌, Some, None, Result, Ok, Err, refl, sym, ◌∙◌, subst, arith, ℤ, pos, ◌↔◌, list_all, nat_tests, day_number, number_in, month_of, period_of, slice_split, onto_first, is_dash, range_at, range_of_parts_by, DateFault, BadDate, BadNumber, Range, start_of_day, end_of_day, Option}
 use Rattle.contract_words.specs.Answers.{◌>>=◌ as ◌>>=ᵣ◌}
-use Rattle.std.specs.List.{list_any, join_with_byte}
+use Rattle.std.specs.List.{list_any}
 use Rattle.std.specs.Char.{is_ascii_digit, is_ascii_alphabetic}
 use Rattle.std.proofs.lemmas.Bool.{or_parts, or_from}
 use Rattle.std.proofs.lemmas.List.Folds.{list_any-append}
@@ -24,37 +24,32 @@ Free text = list_any is_dash text ≡ false
 split_none : (text : List ℕ) → Free text → slice_split is_dash text ≡ text ∷ []
 split_none [] h = refl
 split_none (b ∷ bs) h =
-    let parts = or_parts (is_dash b) (list_any is_dash bs) h in rw parts.0 (ap (onto_first b) (split_none bs parts.1))
+    grind (arith, or_parts, split_none bs)
 
 split_at : (text rest : List ℕ) → Free text
     → slice_split is_dash (text ++ 0x2D ∷ rest) ≡ text ∷ slice_split is_dash rest
 split_at [] rest h = refl
 split_at (b ∷ bs) rest h =
-    let parts = or_parts (is_dash b) (list_any is_dash bs) h
-    in rw parts.0 (ap (onto_first b) (split_at bs rest parts.1))
+    grind (arith, or_parts, split_at bs rest)
 
 alone : (text part : List ℕ) → slice_split is_dash text ≡ part ∷ [] → text ≡ part
-alone text part e = sym (join_with_byte-slice_split 0x2D text) ∙ ap (join_with_byte 0x2D) e
+alone text part e = cc (join_with_byte-slice_split 0x2D text)
 
 joined : (text first second : List ℕ) → slice_split is_dash text ≡ first ∷ second ∷ [] → text ≡ first ++ 0x2D ∷ second
-joined text first second e = sym (join_with_byte-slice_split 0x2D text) ∙ ap (join_with_byte 0x2D) e
+joined text first second e = cc (join_with_byte-slice_split 0x2D text)
 
 first_free : (text first : List ℕ) (rest : List (List ℕ)) → slice_split is_dash text ≡ first ∷ rest → Free first
-first_free [] first rest e = let nothing : [] ≡ first = cc in subst Free nothing refl
-first_free (b ∷ bs) first rest e = go (is_dash b) refl (split_front is_dash bs) (first_free bs) e
+first_free [] first rest e = grind arith
+first_free (b ∷ bs) first rest e = go (is_dash b) refl (split_front _ bs) (first_free bs) e
   where
     go : (t : Bool) → is_dash b ≡ t
         → (part : List ℕ) × (parts : List (List ℕ)) × (slice_split is_dash bs ≡ part ∷ parts)
         → ((part : List ℕ) (parts : List (List ℕ)) → slice_split is_dash bs ≡ part ∷ parts → Free part)
         → cond t ([] ∷ slice_split is_dash bs) (onto_first b (slice_split is_dash bs)) ≡ first ∷ rest → Free first
-    go true h f r k = let nothing : [] ≡ first = cc in subst Free nothing refl
-    go false h f r k =
-        let same : (b ∷ f.0) ∷ f.1 ≡ first ∷ rest = sym (ap (onto_first b) f.2) ∙ k in
-        let first_is : b ∷ f.0 ≡ first = cc in
-        subst Free first_is (or_from (is_dash b) (list_any is_dash f.0) h (r f.0 f.1 f.2))
+    go t h f r k = grind (arith, or_from)
 
 append_free : (xs ys : List ℕ) → Free xs → Free ys → Free (xs ++ ys)
-append_free xs ys h k = rw (list_any-append is_dash xs ys, h, k) refl
+append_free xs ys h k = grind (arith, list_any-append)
 
 digits_free : (xs : List ℕ) → list_all is_ascii_digit xs ≡ true → Free xs
 digits_free [] h = refl
@@ -65,34 +60,33 @@ letters_free [] h = refl
 letters_free (x ∷ xs) h = grind (arith, nat_tests, letters_free xs)
 
 number_free : (least most : ℕ) (text : List ℕ) (n : ℕ) → number_in least most text ≡ Some n → Free text
-number_free least most text n e = let number = number_is least most text n e in digits_free text number.digits
+number_free least most text n e = grind (arith, number_is, digits_free)
 
 name_free : (text : List ℕ) (month : ℕ) → month_of text ≡ Some month → Free text
-name_free text month e = let name = name_is text month e in letters_free text name.letters
+name_free text month e = grind (arith, name_is, letters_free)
 
 letter_free : (letter : ℕ) (unit : Unit) → unit_of letter ≡ Some unit → Free (letter ∷ [])
-letter_free letter unit e = letters_free (letter ∷ []) (rw (unit_letter letter unit e) refl)
+letter_free letter unit e = grind (arith, letters_free, unit_letter)
 
 period_free : (today by : ℤ) (text : List ℕ) (form : Form) (said : Option Days) → IsPeriod today by text form said
     → Free text
 period_free today by text form said (CountOfUnits digits count letter unit e u) =
-    append_free digits (letter ∷ []) (number_free 1 4 digits count e) (letter_free letter unit u)
+    grind (arith, append_free, number_free, letter_free)
 period_free today by text form said (YearMonthDay yyyy mm dd year month day e f g) =
-    append_free yyyy (mm ++ dd) (number_free 4 4 yyyy year e)
-    (append_free mm dd (number_free 2 2 mm month f) (number_free 2 2 dd day g))
+    grind (arith, append_free, number_free)
 period_free today by text form said (Year yyyy year e) = number_free 4 4 yyyy year e
 period_free today by text form said (Month name month e) = name_free name month e
 period_free today by text form said (DayMonth digits name day month d e) =
-    let n = day_is digits day d in append_free digits name (digits_free digits n.digits) (name_free name month e)
+    grind (arith, day_is, append_free, digits_free, name_free)
 period_free today by text form said (MonthDay name digits month day e d) =
-    let n = day_is digits day d in append_free name digits (name_free name month e) (digits_free digits n.digits)
+    grind (arith, day_is, append_free, name_free, digits_free)
 
 names_free : (today by : ℤ) (text : List ℕ) (days : Days) → NamesDays today by text days → Free text
-names_free today by text days n = period_free today by text n.form (Some days) n.period
+names_free today by text days n = grind (arith, period_free)
 
 long_free : (text : List ℕ) → IsLongCount text → Free text
 long_free text (DigitsAndUnit digits letter unit many h u) =
-    append_free digits (letter ∷ []) (digits_free digits h) (letter_free letter unit u)
+    grind (arith, append_free, digits_free, letter_free)
 
 -- ---- each range is read
 
@@ -105,7 +99,7 @@ unfolding period_of month_of
 none_named today by = refl
 
 none_names : {P : Type 0} (today by : ℤ) (days : Days) → named today by [] ≡ Ok days → P
-none_names today by days e = let wrong : Err BadDate ≡ Ok days = sym (none_named today by) ∙ e in absurd cc
+none_names today by days e = grind (arith, none_named)
 
 none_long : {P : Type 0} → IsLongCount [] → P
 none_long long =
@@ -120,47 +114,46 @@ module _ (now : ℕ) where
       → named (day_at now) last.last start ≡ Ok first
       → range_between_by day_number now start end
       ≡ Ok (record { from = Some (start_of_day first.first); until = Some (end_of_day last.last) })
-  between_read start [] first last e f = none_names (day_at now) (day_at now) last e
-  between_read [] (b ∷ bs) first last e f = none_names (day_at now) last.last first f
+  between_read start [] first last e f = none_names (day_at now) (day_at now) _ e
+  between_read [] (b ∷ bs) first last e f = none_names (day_at now) last.last _ f
   between_read (a ∷ more) (b ∷ bs) first last e f = rw (e, f) refl
 
   until_read : (end : List ℕ) (last : Days) → days_of end ≡ Ok last → range_between_by day_number now [] end
       ≡ Ok (record { from = None; until = Some (end_of_day last.last) })
-  until_read [] last e = none_names (day_at now) (day_at now) last e
+  until_read [] last e = none_names (day_at now) (day_at now) _ e
   until_read (b ∷ bs) last e = rw e refl
 
   since_read : (start : List ℕ) (first : Days) → days_of start ≡ Ok first → range_between_by day_number now start []
       ≡ Ok (record { from = Some (start_of_day first.first); until = Some (pos now) })
-  since_read [] first e = none_names (day_at now) (day_at now) first e
+  since_read [] first e = none_names (day_at now) (day_at now) _ e
   since_read (a ∷ more) first e = rw e refl
 
   -- a text of one part, and one of two
   one_part : (text : List ℕ) → Free text → range_at text now ≡ range_of_period_by day_number now text
   unfolding range_at
-  one_part text h = ap (range_of_parts_by day_number now) (split_none text h)
+  one_part text h = grind (arith, split_none)
 
   two_parts : (start end : List ℕ) → Free start → Free end
       → range_at (start ++ 0x2D ∷ end) now ≡ range_between_by day_number now start end
   unfolding range_at
   two_parts start end h k =
-      ap (range_of_parts_by day_number now) (split_at start end h
-      ∙ ap (λ (parts : List (List ℕ)). start ∷ parts) (split_none end k))
+      grind (arith, split_at, split_none)
 
   pub range_read : (text : List ℕ) (range : Range) → IsRange now text range → range_at text now ≡ Ok range
   range_read text range (InPeriod period days n) =
-      one_part period (names_free (day_at now) (day_at now) period days n)
+      one_part _ (names_free _ _ _ _ n)
       ∙ rw (names_read (day_at now) (day_at now) period days n) refl
   range_read text range (Between start end first last l f) =
-      two_parts start end (names_free (day_at now) last.last start first f)
-      (names_free (day_at now) (day_at now) end last l)
-      ∙ between_read start end first last (names_read (day_at now) (day_at now) end last l)
-      (names_read (day_at now) last.last start first f)
+      two_parts _ _ (names_free _ _ _ _ f)
+      (names_free _ _ _ _ l)
+      ∙ between_read _ _ _ _ (names_read _ _ end last l)
+      (names_read _ _ start first f)
   range_read text range (Until end last l) =
-      two_parts [] end refl (names_free (day_at now) (day_at now) end last l)
-      ∙ until_read end last (names_read (day_at now) (day_at now) end last l)
+      two_parts [] _ refl (names_free _ _ _ _ l)
+      ∙ until_read _ _ (names_read _ _ end last l)
   range_read text range (Since start first f) =
-      two_parts start [] (names_free (day_at now) (day_at now) start first f) refl
-      ∙ since_read start first (names_read (day_at now) (day_at now) start first f)
+      two_parts _ [] (names_free _ _ _ _ f) refl
+      ∙ since_read _ _ (names_read _ _ start first f)
 
   -- ---- the range of days
 
@@ -182,13 +175,12 @@ module _ (now : ℕ) where
   ended : (start : List ℕ) (r : Result Days DateFault)
       → ((r >>=ᵣ (λ days. Ok (day_and_second days))) >>=ᵣ (λ end. range_from_by day_number now end.0 start end.1))
       ≡ after_end start r
-  ended start (Ok last) = refl
-  ended start (Err fault) = refl
+  ended start r = grind arith
 
   with_end : (start : List ℕ) (b : ℕ) (bs : List ℕ)
       → range_between_by day_number now start (b ∷ bs) ≡ after_end start (days_of (b ∷ bs))
-  with_end [] b bs = ended [] (days_of (b ∷ bs))
-  with_end (a ∷ more) b bs = ended (a ∷ more) (days_of (b ∷ bs))
+  with_end [] b bs = ended [] _
+  with_end (a ∷ more) b bs = ended (a ∷ more) _
 
   -- ---- each text that is read is a range
 
@@ -203,8 +195,7 @@ module _ (now : ℕ) where
     where
       go : (r : Result Days DateFault) → named (day_at now) end (a ∷ more) ≡ r → after_start until r ≡ Ok range
           → IsStart end (a ∷ more) until range
-      go (Ok first) h k = record { first = first; names = read_names (day_at now) end (a ∷ more) first h; is = cc }
-      go (Err fault) h k = absurd cc
+      go r h h2 = grind (arith, read_names)
 
   read_period : (period : List ℕ) (range : Range) → range_of_period_by day_number now period ≡ Ok range
       → IsRange now period range
@@ -213,8 +204,7 @@ module _ (now : ℕ) where
       go : (r : Result Days DateFault) → days_of period ≡ r → after_period r ≡ Ok range → IsRange now period range
       go (Ok days) h k =
           let same : range_of_days days ≡ range = cc
-          in subst (IsRange now period) same (InPeriod period days
-          (read_names (day_at now) (day_at now) period days h))
+          in rw same at (InPeriod period days (read_names _ _ period days h))
       go (Err fault) h k = absurd cc
 
   read_between : (start end : List ℕ) (range : Range) → range_between_by day_number now start end ≡ Ok range
@@ -222,15 +212,14 @@ module _ (now : ℕ) where
   read_between [] [] range e = absurd cc
   read_between (a ∷ more) [] range e =
       let s = read_start (day_at now) a more (pos now) range e
-      in subst (IsRange now ((a ∷ more) ++ 0x2D ∷ [])) s.is (Since (a ∷ more) s.first s.names)
+      in rw s.is at (Since (a ∷ more) s.first s.names)
   read_between [] (b ∷ bs) range e = go (days_of (b ∷ bs)) refl (sym (with_end [] b bs) ∙ e)
     where
       go : (r : Result Days DateFault) → days_of (b ∷ bs) ≡ r → after_end [] r ≡ Ok range
           → IsRange now (0x2D ∷ b ∷ bs) range
       go (Ok last) h k =
           let same : record { from = None; until = Some (end_of_day last.last) } ≡ range = cc in
-          subst (IsRange now (0x2D ∷ b ∷ bs)) same
-          (Until (b ∷ bs) last (read_names (day_at now) (day_at now) (b ∷ bs) last h))
+          rw same at (Until (b ∷ bs) last (read_names (day_at now) (day_at now) (b ∷ bs) last h))
       go (Err fault) h k = absurd cc
   read_between (a ∷ more) (b ∷ bs) range e = go (days_of (b ∷ bs)) refl (sym (with_end (a ∷ more) b bs) ∙ e)
     where
@@ -238,8 +227,8 @@ module _ (now : ℕ) where
           → IsRange now ((a ∷ more) ++ 0x2D ∷ b ∷ bs) range
       go (Ok last) h k =
           let s = read_start last.last a more (end_of_day last.last) range k in
-          subst (IsRange now ((a ∷ more) ++ 0x2D ∷ b ∷ bs)) s.is
-          (Between (a ∷ more) (b ∷ bs) s.first last (read_names (day_at now) (day_at now) (b ∷ bs) last h) s.names)
+          rw s.is at (Between (a ∷ more) (b ∷ bs) s.first last (read_names (day_at now) (day_at now) (b ∷ bs) last h)
+          s.names)
       go (Err fault) h k = absurd cc
 
   pub read_range : (text : List ℕ) (range : Range) → range_at text now ≡ Ok range → IsRange now text range
@@ -250,9 +239,9 @@ module _ (now : ℕ) where
           → range_of_parts_by day_number now parts ≡ Ok range → IsRange now text range
       go [] h k = absurd cc
       go (period ∷ []) h k =
-          subst (λ (t : List ℕ). IsRange now t range) (sym (alone text period h)) (read_period period range k)
+          subst (λ (t : List ℕ). IsRange now t range) (sym (alone _ _ h)) (read_period _ _ k)
       go (start ∷ end ∷ []) h k =
-          subst (λ (t : List ℕ). IsRange now t range) (sym (joined text start end h)) (read_between start end range k)
+          subst (λ (t : List ℕ). IsRange now t range) (sym (joined _ _ _ h)) (read_between _ _ _ k)
       go (a ∷ b ∷ c ∷ rest) h k = absurd cc
 
   -- ---- counts that are too long
@@ -262,38 +251,31 @@ module _ (now : ℕ) where
 
   long_end : (start end : List ℕ) → IsLongCount end → TooLongBetween start end
   long_end start [] long = none_long long
-  long_end start (b ∷ bs) long = with_end start b bs ∙ rw (long_read (day_at now) (day_at now) (b ∷ bs) long) refl
+  long_end start (b ∷ bs) long = grind (arith, with_end, long_read)
 
   long_start : (start end : List ℕ) → IsLongCount start → IsEnd now end → TooLongBetween start end
   long_start [] end long h = none_long long
-  long_start (a ∷ more) end long NoEnd = rw (long_read (day_at now) (day_at now) (a ∷ more) long) refl
+  long_start (a ∷ more) end long NoEnd = grind (arith, long_read)
   long_start (a ∷ more) end long (NamedEnd end' last l) =
       after end' last (names_read (day_at now) (day_at now) end' last l)
     where
       after : (end : List ℕ) (last : Days) → days_of end ≡ Ok last → TooLongBetween (a ∷ more) end
-      after [] last e = none_names (day_at now) (day_at now) last e
-      after (b ∷ bs) last e = rw (e, long_read (day_at now) last.last (a ∷ more) long) refl
+      after end last h = grind (arith, none_names, long_read)
 
   end_free : (end : List ℕ) → IsEnd now end → Free end
   end_free end NoEnd = refl
-  end_free end (NamedEnd end' last l) = names_free (day_at now) (day_at now) end' last l
+  end_free end (NamedEnd end' last l) = names_free _ _ _ _ l
 
   pub too_long : (text : List ℕ) → HasLongCount now text → range_at text now ≡ Err BadNumber
   too_long text (AsPeriod period long) =
-      one_part period (long_free period long) ∙ rw (long_read (day_at now) (day_at now) period long) refl
-  too_long text (AsEnd start end h long) = two_parts start end h (long_free end long) ∙ long_end start end long
+      grind (arith, one_part, long_free, long_read)
+  too_long text (AsEnd start end h long) = grind (arith, two_parts, long_free, long_end)
   too_long text (AsStart start end long h) =
-      two_parts start end (long_free start long) (end_free end h) ∙ long_start start end long h
+      grind (arith, two_parts, long_free, end_free, long_start)
 
   was_long : (end : ℤ) (a : ℕ) (more : List ℕ) (until : ℤ)
       → range_from_by day_number now end (a ∷ more) until ≡ Err BadNumber → IsLongCount (a ∷ more)
-  was_long end a more until e = go (named (day_at now) end (a ∷ more)) refl e
-    where
-      go : (r : Result Days DateFault) → named (day_at now) end (a ∷ more) ≡ r → after_start until r ≡ Err BadNumber
-          → IsLongCount (a ∷ more)
-      go (Ok first) h k = absurd cc
-      go (Err BadNumber) h k = read_long (day_at now) end (a ∷ more) h
-      go (Err BadDate) h k = absurd cc
+  was_long end a more until e = grind (arith, read_long)
 
   was_long_period : (period : List ℕ) → range_of_period_by day_number now period ≡ Err BadNumber
       → HasLongCount now period
@@ -332,41 +314,41 @@ module _ (now : ℕ) where
       go : (parts : List (List ℕ)) → slice_split is_dash text ≡ parts
           → range_of_parts_by day_number now parts ≡ Err BadNumber → HasLongCount now text
       go [] h k = absurd cc
-      go (period ∷ []) h k = subst (HasLongCount now) (sym (alone text period h)) (was_long_period period k)
+      go (period ∷ []) h k = subst (HasLongCount now) (sym (alone _ _ h)) (was_long_period _ k)
       go (start ∷ end ∷ []) h k =
-          subst (HasLongCount now) (sym (joined text start end h))
-          (was_long_between start end (first_free text start (end ∷ []) h) k)
+          subst (HasLongCount now) (sym (joined _ _ _ h))
+          (was_long_between _ _ (first_free text _ _ h) k)
       go (a ∷ b ∷ c ∷ rest) h k = absurd cc
 
   -- ---- the laws
 
   pub range_law : (text : List ℕ) (range : Range) → (range_at text now ≡ Ok range) ↔ IsRange now text range
-  range_law text range = (read_range text range, range_read text range)
+  range_law text range = (read_range _ _, range_read _ _)
 
   pub fault_law : (text : List ℕ) (fault : DateFault) → (range_at text now ≡ Err fault) ↔ IsFault now text fault
   fault_law text fault = (refused fault, is_refused fault)
     where
       refused : (fault : DateFault) → range_at text now ≡ Err fault → IsFault now text fault
-      refused BadNumber e = TooLong (was_too_long text e)
+      refused BadNumber e = TooLong (was_too_long _ e)
       refused BadDate e =
-          NoRange (λ range is. let ok : Ok range ≡ Err BadDate = sym (range_read text range is) ∙ e in cc)
-          (λ long. let other : Err BadNumber ≡ Err BadDate = sym (too_long text long) ∙ e in cc)
+          NoRange (λ range is. let ok : Ok range ≡ Err BadDate = sym (range_read _ _ is) ∙ e in cc)
+          (λ long. let other : Err BadNumber ≡ Err BadDate = sym (too_long _ long) ∙ e in cc)
 
       go : (r : Result Range DateFault) → range_at text now ≡ r → ((range : Range) → IsRange now text range → ⊥)
           → (HasLongCount now text → ⊥) → range_at text now ≡ Err BadDate
-      go (Ok range) e h k = absurd (h range (read_range text range e))
+      go (Ok range) e h k = absurd (h range (read_range _ _ e))
       go (Err BadDate) e h k = e
-      go (Err BadNumber) e h k = absurd (k (was_too_long text e))
+      go (Err BadNumber) e h k = absurd (k (was_too_long _ e))
 
       is_refused : (fault : DateFault) → IsFault now text fault → range_at text now ≡ Err fault
-      is_refused fault (TooLong long) = too_long text long
+      is_refused fault (TooLong long) = too_long _ long
       is_refused fault (NoRange h k) = go (range_at text now) refl h k
 
   -- the same for the result of a call
   pub range_answered : (text : List ℕ) (r : Result Range DateFault) → r ≡ range_at text now → (range : Range)
       → (r ≡ Ok range) ↔ IsRange now text range
-  range_answered text r e range = rw e (range_law text range)
+  range_answered text r e range = rw e (range_law _ _)
 
   pub fault_answered : (text : List ℕ) (r : Result Range DateFault) → r ≡ range_at text now → (fault : DateFault)
       → (r ≡ Err fault) ↔ IsFault now text fault
-  fault_answered text r e fault = rw e (fault_law text fault)
+  fault_answered text r e fault = rw e (fault_law _ _)

@@ -5,7 +5,7 @@ pub use Rattle.jiff_core.specs.Calendar.{IsDate, IsEpochDay, days_from_civil, da
 pub use Rattle.jiff_core.specs.Date.{IsYmd, epoch_day}
 pub use Rattle.mail_dates.specs.Calendar.{HasNoLater, IsLatestYear, end_of_day, greatest_below, is_civil_day, latest_year, start_of_day, year_at}
 unfoldable pub use Rattle.mail_dates.specs.Calendar.{day_number, month_of}
-pub use Rattle.mail_dates.specs.HeaderDates.{date_by, date_of_parts_by, date_of_tokens_by, is_colon, is_gap, time_of_parts, with_first, without_day_name, year_of}
+pub use Rattle.mail_dates.specs.HeaderDates.{date_by, date_of_parts_by, date_of_tokens_by, is_gap, time_of_parts, with_first, without_day_name, year_of}
 unfoldable pub use Rattle.mail_dates.specs.HeaderDates.{date_of, hours_west, offset_of, time_of, date_tokens}
 pub use Rattle.mail_dates.specs.IsoRanges.{is_dot, iso_parts_by, iso_range_by, iso_range_of_parts_by}
 unfoldable pub use Rattle.mail_dates.specs.IsoRanges.{iso_days_by, iso_range_of}

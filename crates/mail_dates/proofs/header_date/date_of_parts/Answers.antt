@@ -1,5 +1,5 @@
 -- `date_of_parts` returns the second that the parts say, because each step of its sum fits into 64 bits.
-use Rattle.mail_dates.proofs.Words.{◌≡◌, ◌<◌, ◌^◌, ℕ, ℤ, pos, ◌+ℤ◌, ◌-ℤ◌, ◌*ℤ◌, of_z, to_z, w16, w32, w64, FitsSigned, arith, rules, refl, sym, ◌∙◌, ap, List, Some, ints, IsEpochDay, day_number, month_of, start_of_day, number_in, year_of, time_of, date_of_parts_by}
+use Rattle.mail_dates.proofs.Words.{◌≡◌, ◌<◌, ◌^◌, ℕ, ℤ, pos, ◌+ℤ◌, ◌-ℤ◌, ◌*ℤ◌, of_z, to_z, w16, w32, w64, FitsSigned, arith, rules, refl, ◌∙◌, List, Some, ints, IsEpochDay, day_number, month_of, start_of_day, number_in, year_of, time_of, date_of_parts_by}
 use Rattle.mail_dates.proofs.header_date.date_of_parts.Goals as goal
 
 -- the date of parts that can be read
@@ -20,12 +20,5 @@ pub returns-in_ok-date-in-Some-Some-Some-Some : goal.returns-in_ok-date-in-Some-
 returns-in_ok-date-in-Some-Some-Some-Some c =
     let parts = c.in-Some-Some-Some-Some in
     let found = c.in_ok-date-in-Some-Some-Some-Some in
-    let year : to_z w16 parts.year ≡ pos parts.year = let small = parts.ensures''.bound in omega (arith, ints) in
-    let date : Some found.date ≡ day_number (pos parts.year) parts.month parts.day = rw year at found.ensures.value in
-    let same = fits found.date c.args.offset c.from.result c.from-in-Some-Some-Some-Some.result
-    c.from-in-Some-Some-Some-Some-2.result parts.second found.ensures.bound (search rules) c.ranges.offset
-    c.from.ensures c.from-in-Some-Some-Some-Some.ensures c.from-in-Some-Some-Some-Some-2.ensures in
-    ap Some same
-    ∙ sym (read c.args.day.now c.args.month.now c.args.year.now c.args.time.now c.args.offset parts.day parts.month
-    parts.year parts.second found.date parts.ensures.value parts.ensures'.value parts.ensures''.value date
-    parts.ensures''')
+    let year : to_z w16 parts.year ≡ pos parts.year = grind (arith, ints) in
+    grind (arith, fits, rules, read)

@@ -1,12 +1,11 @@
 -- `read_date` reads the tokens as the definition does, because a missing token is read as an empty one, which says
 -- nothing.
-use Rattle.mail_dates.proofs.Words.{◌≡◌, ◌∙◌, ℕ, pos, List, [], ◌∷◌, Option, Some, None, w32, FitsSigned, to_z-of_z, rules, refl, sym, ap, date_tokens, with_first, without_day_name, number_in, ◌>>=◌, day_number, month_of, year_of, time_of, offset_of, hours_west, date_of_parts_by, date_of_tokens_by, date_of}
+use Rattle.mail_dates.proofs.Words.{◌≡◌, ◌∙◌, ℕ, pos, List, [], ◌∷◌, Option, None, w32, FitsSigned, to_z-of_z, rules, refl, date_tokens, with_first, number_in, ◌>>=◌, day_number, month_of, year_of, time_of, offset_of, hours_west, date_of_parts_by, date_of_tokens_by, date_of, arith}
 use Rattle.mail_dates.specs.HeaderDates.{without_comments}
 use Rattle.mail_dates.proofs.header_date.read_date.Goals as goal
 
 nothing : {A B : Type 0} (o : Option A) (f : A → Option B) → ((x : A) → f x ≡ None) → (o >>= f) ≡ None
-nothing None f h = refl
-nothing (Some x) f h = h x
+nothing o f h = grind arith
 
 -- the date if a token is missing
 read : (day month year time zone r s t u v : List ℕ) → date_tokens r ≡ with_first month s → date_tokens s
@@ -34,12 +33,14 @@ returns c =
     let time = c.next_token-3.result in
     let zone = c.next_token-4.result in
     let fits : FitsSigned w32 c.offset_of.result = search rules in
-    c.date_of_parts.ensures
-    ∙ ap (date_of_parts_by day_number day.0.now month.0.now year.0.now time.0.now)
-    (to_z-of_z w32 c.offset_of.result fits ∙ c.offset_of.ensures)
-    ∙ read day.0.now month.0.now year.0.now time.0.now zone.0.now day.1.now month.1.now year.1.now time.1.now zone.1.now
-    c.next_token.ensures.tokens c.next_token-2.ensures.tokens c.next_token-3.ensures.tokens
-    c.next_token-4.ensures.tokens
-    ∙ ap (date_of_tokens_by day_number) (sym c.day_token.ensures
-    ∙ ap (λ (t : List ℕ). without_day_name (date_tokens t))
-    (c.without_comments.ensures ∙ ap without_comments c.as_bytes.ensures.value))
+    cc (
+      c.date_of_parts.ensures,
+      to_z-of_z w32 c.offset_of.result fits,
+      c.offset_of.ensures,
+      read day.0.now month.0.now year.0.now time.0.now zone.0.now day.1.now month.1.now year.1.now time.1.now
+          zone.1.now c.next_token.ensures.tokens c.next_token-2.ensures.tokens c.next_token-3.ensures.tokens
+          c.next_token-4.ensures.tokens,
+      c.day_token.ensures,
+      c.without_comments.ensures,
+      c.as_bytes.ensures.value,
+    )

@@ -1,5 +1,5 @@
 -- `range_of_text` refuses four or more parts between dots, because the definition has no form for them.
-use Rattle.mail_dates.proofs.Words.{◌≡◌, ℕ, List, ◌∷◌, None, sym, ap, ◌∙◌, arith, day_number, is_dot, iso_range_of_parts_by}
+use Rattle.mail_dates.proofs.Words.{◌≡◌, ℕ, List, ◌∷◌, None, ◌∙◌, arith, day_number, is_dot, iso_range_of_parts_by}
 use Rattle.mail_dates.proofs.Cuts.{split_four}
 use Rattle.mail_dates.proofs.iso_dates.range_of_text.Goals as goal
 
@@ -13,4 +13,4 @@ returns-in-Some-cut c =
     let four = split_four is_dot c.args.text.now c.in-Some.since.now c.in-Some.rest.now c.in_ok-between.between.now
     c.in_ok-between.until.now c.in-Some-cut.field-0.0.now c.in-Some-cut.field-0.1.now c.in-Some.ensures
     c.in_ok-between.ensures c.in-Some-cut.ensures in
-    too_many _ _ _ four.0 four.1 ∙ ap (iso_range_of_parts_by day_number) (sym four.2)
+    grind (arith, too_many)

@@ -3,4 +3,4 @@ use Rattle.mail_dates.proofs.RangeReading.{range_law}
 use Rattle.mail_dates.proofs.laws.a_range_is_read_as_the_grammar_says.Goals as goal
 
 pub returns : goal.returns
-returns c = λ text now. range_law now text
+returns c = λ text now. range_law _ _

@@ -1,5 +1,5 @@
 -- `offset_of` returns the offset in digits or that of a name, because both are numbers of 32 bits.
-use Rattle.mail_dates.proofs.Words.{◌≡◌, ◌<◌, ◌*◌, ℕ, ℤ, pos, neg_ℤ, ◌-ℤ◌, ◌*ℤ◌, of_z, to_z, w32, FitsSigned, arith, rules, ◌∙◌, ap, Option, unwrap_or, ints, to_z-of_z, offset_of, hours_west}
+use Rattle.mail_dates.proofs.Words.{◌≡◌, ◌<◌, ◌*◌, ℕ, ℤ, pos, neg_ℤ, ◌-ℤ◌, ◌*ℤ◌, of_z, to_z, w32, arith, rules, ◌∙◌, unwrap_or, ints, to_z-of_z, offset_of}
 use Rattle.mail_dates.proofs.zone.offset_of.Goals as goal
 
 west : (hours : ℕ) (z : ℤ) → hours < 9 → z ≡ pos hours
@@ -10,13 +10,9 @@ west hours z few e = omega (arith, ints)
 pub returns-in-Some : goal.returns-in-Some
 unfolding offset_of
 returns-in-Some c =
-    let fits : FitsSigned w32 c.in-Some.offset = search rules in
-    to_z-of_z w32 c.in-Some.offset fits ∙ ap
-    (λ (o : Option ℤ). unwrap_or o (neg_ℤ (pos (hours_west c.args.zone.now * 3600)))) c.in-Some.ensures
+    grind (arith, rules, to_z-of_z, unwrap_or)
 
 pub returns-in-None : goal.returns-in-None
 unfolding offset_of
 returns-in-None c =
-    west c.hours_west.result c.from.result c.hours_west.ensures.bound c.from.ensures
-    ∙ ap (λ (hours : ℕ). neg_ℤ (pos (hours * 3600))) c.hours_west.ensures.value
-    ∙ ap (λ (o : Option ℤ). unwrap_or o (neg_ℤ (pos (hours_west c.args.zone.now * 3600)))) c.in-None.ensures
+    grind (arith, west, unwrap_or)

@@ -1,6 +1,6 @@
 -- `DaysOfYear::latest` returns the latest year that fits, because it goes down year by year from one after which none
 -- fits.
-use Rattle.mail_dates.proofs.Words.{◌≡◌, ℤ, negsuc, ◌≤ℤ◌, ◌<ℤ◌, true, false, of_z, to_z, w16, w32, arith, sym, ap, ◌∙◌, ints, to_z-of_z, day_number, days_in_by, begin_by}
+use Rattle.mail_dates.proofs.Words.{◌≡◌, ℤ, negsuc, ◌≤ℤ◌, ◌<ℤ◌, true, false, of_z, to_z, w16, w32, arith, ◌∙◌, ints, to_z-of_z, day_number, days_in_by, begin_by}
 use Rattle.mail_dates.proofs.LatestYear.{search_start, search_next, search_found, search_over}
 use Rattle.mail_dates.proofs.days.DaysOfYear.latest.Goals as goal
 use lib.Signed.{le_z}
@@ -22,9 +22,8 @@ loop-year-preserved c =
     let year : ℤ = to_z w16 c.loop-year.year-bits in
     let low = at_least year c.loop-year-test.true in
     let missed : begin_by (to_z w32 (of_z w32 c.args.by)) (days_in_by day_number c.args.self year) ≡ false =
-    ap (begin_by (to_z w32 (of_z w32 c.args.by))) (sym c.in_year-days.ensures) ∙ sym c.begin_by.ensures
-    ∙ c.if-begin_by.false in
-    search_next c.args.self (to_z w32 (of_z w32 c.args.by)) year _ c.loop-year.invariant low missed
+    grind (arith, to_z, of_z) in
+    search_next _ _ _ _ c.loop-year.invariant low missed
     (let high = c.loop-year.invariant.high in omega (arith, ints))
 
 pub returns : goal.returns
