@@ -22,8 +22,7 @@ module _ {S : Type 0} (takes : S → TextKind → List ℕ → S → Type 0)
         broken = h.broken;
         front = λ ls ps f ms. (
           (h.front f.coming f.comes ms).0,
-          f.texts (l ∷ ms) ∙ ap (λ (x : List Pair). ps ++ x) (h.front f.coming f.comes ms).1
-              ∙ sym (append_assoc ps h.pairs (h.front f.coming f.comes ms).0),
+          grind (arith, append_assoc),
         );
       }
 
@@ -46,9 +45,7 @@ module _ {S : Type 0} (takes : S → TextKind → List ℕ → S → Type 0)
         broken = h.broken;
         front = λ ls ps f. (
           (h.front f.coming f.comes []).0,
-          ap texts_of_message (sym (append-nil ls)) ∙ f.texts []
-              ∙ ap (λ (x : List Pair). ps ++ x) (h.front f.coming f.comes []).1
-              ∙ sym (append_assoc ps h.pairs (h.front f.coming f.comes []).0),
+          grind (arith, append-nil, append_assoc),
         );
       }
 

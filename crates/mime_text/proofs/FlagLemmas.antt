@@ -23,7 +23,7 @@ module _ (letter : ℕ) (high : 0x20 < letter) where
 
   in-unfolded : (body : List ℕ) → is_in (unfolded_body body) ≡ is_in body
   unfolding unfolded_body before_blanks
-  in-unfolded body = in-reverse _ ∙ in-after_blanks _ ∙ in-reverse _ ∙ in-after_blanks _ ∙ in-without_breaks body
+  in-unfolded body = grind (arith, in-reverse, in-after_blanks, in-without_breaks)
 
   -- the flag with one more such field
   pub letter-step : (f : HeaderField) (rest fields : List HeaderField) (all seen found : Bool) → fields ≡ f ∷ rest → all

@@ -1,5 +1,5 @@
 -- Delimiter lines and the open multiparts: what the code finds is what Stream defines.
-use Rattle.mime_text.proofs.Words.{◌≡◌, ◌∙◌, ◌≤◌, ◌<◌, ◌+◌, ◌-◌, ◌++◌, ◌==◌, ℕ, zero, suc, Bool, true, false, cond, List, [], ◌∷◌, Option, Some, None, length, take, drop, refl, sym, ap, arith, add-one, get_or, Bor, slice_get, option_map, MatchOption, IfSome, eqb-true, bytes_eq, without_break, after_blanks, DefaultType, Frame, Delimiter, are_blanks, is_delimiter, is_closing, StreamPlace, Skip, InHeader, or_else, own_hit, place_after_hit, dash_dash, dashes, kind_after, delimiter_of, place_after_delimiter, scan, inside_out, with_frame, AreNested, take_at}
+use Rattle.mime_text.proofs.Words.{◌≡◌, ◌∙◌, ◌≤◌, ◌<◌, ◌+◌, ◌-◌, ◌++◌, ◌==◌, ℕ, zero, suc, true, false, cond, List, [], ◌∷◌, Option, Some, None, length, take, drop, refl, sym, ap, arith, add-one, get_or, Bor, slice_get, option_map, MatchOption, IfSome, eqb-true, bytes_eq, after_blanks, DefaultType, Frame, Delimiter, are_blanks, is_delimiter, is_closing, StreamPlace, Skip, InHeader, or_else, own_hit, place_after_hit, dash_dash, dashes, kind_after, delimiter_of, place_after_delimiter, scan, inside_out, with_frame, AreNested, take_at}
 use Rattle.std.proofs.lemmas.Option.{slice_get-get_or}
 use Rattle.header_text.specs.EncodedWords.{after}
 use Rattle.mime_text.specs.Frames.{goes_on_apart, is_apart_from}
@@ -30,8 +30,7 @@ blanks_alone (b ∷ bs) = grind (arith, blanks_alone bs)
 
 -- bytes that begin with two dashes aren't blanks only
 pub not_blank : (rest end : List ℕ) → after dash_dash rest ≡ Some end → are_blanks (Some rest) ≡ false
-not_blank [] end h = absurd (cc h)
-not_blank (x ∷ xs) end h = grind arith
+not_blank rest end h = grind arith
 
 -- the result of `strip_prefix`
 pub after-stripped : (front bytes : List ℕ) (r : Option (Bor (List ℕ)))
@@ -59,23 +58,7 @@ own_hit-is : {A : Type 0} (l : List ℕ) (f : Frame) (outer : List Frame)
     → own_hit {A = A} (is_closing f.boundary l) (is_delimiter f.boundary l) f outer ≡ led_by (dashes l) f outer
 unfolding is_delimiter dashes delimiter_of
 own_hit-is {A} l f outer =
-    rw (
-      after-append dash_dash f.boundary (without_break l),
-      after-append dash_dash (f.boundary ++ dash_dash) (without_break l),
-    )
-    (by_dashes (after dash_dash (without_break l)))
-  where
-    by_bools : (closing blank : Bool) → own_hit {A = A} closing blank f outer
-        ≡ place_after_delimiter (cond closing (Some Closing) (cond blank (Some Next) None)) f outer
-    by_bools closing blank = grind arith
-
-    by_rest : (o : Option (List ℕ)) → own_hit {A = A} (are_blanks (then_after o dash_dash)) (are_blanks o) f outer
-        ≡ place_after_delimiter (kind_after o) f outer
-    by_rest o = grind (arith, by_bools)
-
-    by_dashes : (o : Option (List ℕ)) → own_hit {A = A} (are_blanks (then_after o (f.boundary ++ dash_dash)))
-        (are_blanks (then_after o f.boundary)) f outer ≡ led_by o f outer
-    by_dashes o = grind (arith, after-append, by_rest)
+    grind (arith, after-append)
 
 -- ---- the outermost multipart that a line delimits
 
@@ -157,7 +140,7 @@ or_else-led k f outer o = grind arith
 
 -- the element at the index that a loop or an index expression reads
 pub got-at : (fs : List Frame) (n : ℕ) (f : Frame) → n < length fs → f ≡ get_or fs n f → slice_get fs n ≡ Some f
-got-at fs n f h e = slice_get-get_or fs n f h ∙ ap (λ (x : Frame). Some x) (sym e)
+got-at fs n f h e = grind (arith, slice_get-get_or)
 
 pub no_dashes : {A : Type 0} (l : List ℕ) (frames : List Frame) → dashes l ≡ None → place_after_hit {A = A} frames l
     ≡ None

@@ -1,26 +1,21 @@
 -- What a sink was given, call by call.
-use Rattle.mime_text.proofs.Words.{◌≡◌, ◌∙◌, ◌++◌, ℕ, List, [], ◌∷◌, refl, sym, ap, subst, append_assoc, arith, Result, Ok, Err, IsErrAnd, TextKind, SinkFault, TextFault, Pair, ComingPairs, TakesAll, Breaks, Gave, Broke, Hands}
+use Rattle.mime_text.proofs.Words.{◌≡◌, ◌∙◌, ◌++◌, ℕ, List, [], ◌∷◌, append_assoc, arith, Result, Ok, Err, IsErrAnd, TextKind, SinkFault, TextFault, Pair, ComingPairs, TakesAll, Breaks, Gave, Broke, Hands}
 
 -- a fault that is returned to the caller
 pub fault-up : {T : Type 0} (result : Result T TextFault) (fault : TextFault) → IsErrAnd result (λ f. f ≡ fault)
     → result ≡ Err fault
-fault-up (Err f) fault e = ap Err e
-fault-up (Ok x) fault e = absurd e
+fault-up result fault h = grind arith
 
 module _ {S : Type 0} (takes : S → TextKind → List ℕ → S → Type 0)
     (refuses : S → TextKind → List ℕ → SinkFault → S → Type 0) where
   taken-append : (ps qs : List Pair) (s t u : S) → TakesAll takes refuses ps s t → TakesAll takes refuses qs t u
       → TakesAll takes refuses (ps ++ qs) s u
-  taken-append [] qs s t u h k = let P : S → Type 0 = λ x. TakesAll takes refuses qs x u in subst P h k
+  taken-append [] qs s t u h k = grind arith
   taken-append (p ∷ ps) qs s t u h k = (h.0, h.1, taken-append ps qs h.0 t u h.2 k)
 
   breaks-append : (fault : TextFault) (ps qs : List Pair) (s t u : S) → TakesAll takes refuses ps s t
       → Breaks takes refuses fault qs t u → Breaks takes refuses fault (ps ++ qs) s u
   breaks-append fault ps qs s t u h h2 = grind (arith, taken-append, append_assoc)
-
-  -- a call that gives nothing
-  pub gave-nothing : (A : ComingPairs) (s : S) → Gave takes refuses A A s s
-  gave-nothing A s = record { pairs = []; taken = refl; rest = λ ms. refl }
 
   -- one call after another
   pub gave-more : (A B C : ComingPairs) (s t u : S) → Gave takes refuses A B s t → Gave takes refuses B C t u
@@ -32,11 +27,10 @@ module _ {S : Type 0} (takes : S → TextKind → List ℕ → S → Type 0)
   broke-later A B fault s t u h k =
       record {
         pairs = h.pairs ++ k.pairs;
-        broken = breaks-append fault h.pairs k.pairs s t u h.taken k.broken;
+        broken = grind (arith, breaks-append);
         front = λ ms. (
           (k.front ms).0,
-          h.rest ms ∙ ap (λ (l : List Pair). h.pairs ++ l) (k.front ms).1
-              ∙ sym (append_assoc h.pairs k.pairs (k.front ms).0),
+          grind (arith, append_assoc),
         );
       }
 

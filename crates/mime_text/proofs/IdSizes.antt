@@ -21,7 +21,7 @@ module _ (old new : List (Vec ℕ Global)) (more : List (List ℕ)) (size : ℕ)
     (room : ids_size (texts_of old) + size ≤ most_in_header) where
   pub all_sized : All IsSizedId (texts_of new)
   all_sized =
-      let sized : All IsSizedId more = λ k d lt. let here = some k d lt in (here.0, omega (arith, here.1)) in
+      let sized : All IsSizedId more = grind arith in
       rw e (All-append IsSizedId (texts_of old) more (All-map IsSizedId (λ (id : Vec ℕ Global). id.items) old each)
       sized)
 

@@ -1,5 +1,5 @@
 -- The decoded bytes of a leaf, line by line: each call gives the first lines and keeps the rest.
-use Rattle.mime_text.proofs.Words.{◌≡◌, ◌∙◌, ◌+◌, ◌-◌, ◌<◌, ◌≤◌, ◌==◌, ◌++◌, ℕ, suc, true, false, cond, List, [], ◌∷◌, Some, None, length, take, drop, refl, sym, ap, ap₂, subst, arith, length-append, append-nil, Result, Ok, Err, OnOk, concat, eqb-true, nat_tests, length-drop, drop-drop, take-append-le, drop-append-le, take_all, drop_all, take-append-drop, length_before_feed, line_end_of, lines, line_end-more, line_end-positive, line_end-within, line_end-whole, TextKind, SinkFault, TextFault, OutOfMemory, Sink, Failed, LineTexts, Pair, Gave, Broke, Hands, ends_in, line_text, is_tag_open_after_line, texts_after, body_pairs, pairs_of_lines, pairs_of_bytes}
+use Rattle.mime_text.proofs.Words.{◌≡◌, ◌∙◌, ◌+◌, ◌-◌, ◌<◌, ◌≤◌, ◌==◌, ◌++◌, ℕ, true, false, List, [], ◌∷◌, Some, None, length, take, drop, refl, sym, ap, ap₂, arith, length-append, append-nil, Result, Ok, Err, OnOk, concat, eqb-true, nat_tests, length-drop, drop-drop, take-append-le, drop-append-le, take_all, drop_all, take-append-drop, length_before_feed, line_end_of, lines, line_end-more, line_end-positive, line_end-within, line_end-whole, TextKind, SinkFault, TextFault, OutOfMemory, Sink, Failed, LineTexts, Pair, Gave, Broke, Hands, ends_in, line_text, is_tag_open_after_line, texts_after, body_pairs, pairs_of_lines, pairs_of_bytes}
 use Rattle.std.proofs.lemmas.Slice.Eq.{bytes_eq-Decides}
 use Rattle.mbox_cutter.proofs.LineLists.{lines-cons, lines-nil}
 use Rattle.mail_words.specs.declared.kind.TextKind.TheVariants as kind
@@ -27,8 +27,7 @@ lines-first b more n e = grind (
 
 pub lines-parts : (b line later more : List ℕ) (n : ℕ) → Some n ≡ line_end_of b → line ≡ take n b → later ≡ drop n b
     → lines (b ++ more) ≡ line ∷ lines (later ++ more)
-lines-parts b line later more n e f g = lines-first b more n e
-    ∙ ap₂ (λ (x y : List ℕ). x ∷ lines (y ++ more)) (sym f) (sym g)
+lines-parts b line later more n e f g = grind (arith, lines-first)
 
 -- the last line
 pub lines-last : (b : List ℕ) → None ≡ line_end_of b → 0 < length b → lines b ≡ b ∷ []
@@ -36,24 +35,18 @@ lines-last b e some = grind (arith, line_end-whole, lines-cons, take_all, drop_a
 
 before_feed-last : (front : List ℕ) → length_before_feed (front ++ 10 ∷ []) ≤ length front
 before_feed-last [] = omega arith
-before_feed-last (x ∷ xs) = elim (x == 10) as
-    (λ v. cond v 0 (suc (length_before_feed (xs ++ 10 ∷ []))) ≤ length (x ∷ xs))
-    [ true ↦ omega arith | false ↦ omega (arith, before_feed-last xs) ]
+before_feed-last (x ∷ xs) = grind (arith, before_feed-last xs)
 
 -- a line that ends with its only line feed
 pub feed-end : (line : List ℕ) → ends_in 0x0A line ≡ true → length line ≤ length_before_feed line + 1
     → length line ≤ 65537 → Some (length line) ≡ line_end_of line
 unfolding line_end_of
 feed-end line feed last short =
-    let tail : drop (length line - 1) line ≡ 10 ∷ [] = (bytes_eq-Decides (drop (length line - 1) line) (10 ∷ [])).0 feed
+    let tail : drop (length line - 1) line ≡ 10 ∷ [] = grind (arith, bytes_eq-Decides)
     in
     let front : List ℕ = take (length line - 1) line in
-    let whole : line ≡ front ++ 10 ∷ [] = sym (take-append-drop (length line - 1) line)
-    ∙ ap (λ (l : List ℕ). front ++ l) tail in
-    let size : length line ≡ length front + 1 = ap length whole ∙ length-append front (10 ∷ []) in
-    let P : List ℕ → Type 0 = λ l. length_before_feed l ≤ length front in
-    let feeds : length_before_feed line ≤ length front = subst P (sym whole) (before_feed-last front) in
-    grind (arith, nat_tests)
+    let whole : line ≡ front ++ 10 ∷ [] = grind (arith, take-append-drop) in
+    grind (arith, length-append, before_feed-last, nat_tests)
 
 pub lines-whole : (line more : List ℕ) → Some (length line) ≡ line_end_of line → lines (line ++ more)
     ≡ line ∷ lines more
@@ -65,15 +58,12 @@ lines-whole line more e =
 
 pub no_bytes : (b : List ℕ) → (length b == 0) ≡ true → b ≡ []
 no_bytes [] e = refl
-no_bytes (x ∷ xs) e = let none : length (x ∷ xs) ≡ 0 = eqb-true (length (x ∷ xs)) 0 e in absurd (omega arith)
+no_bytes (x ∷ xs) e = grind (arith, eqb-true)
 
 pub some_bytes : (b : List ℕ) → (length b == 0) ≡ false → 0 < length b
 some_bytes b h = grind arith
 
 -- ---- what is left is the end of the bytes
-
-pub rest-start : (b : List ℕ) → b ≡ drop (length b - length b) b
-rest-start b = let none : length b - length b ≡ 0 = omega arith in rw none refl
 
 pub rest-step : (b rest later : List ℕ) (n : ℕ) → length rest ≤ length b → rest ≡ drop (length b - length rest) b
     → later ≡ drop n rest → n ≤ length rest
@@ -90,7 +80,7 @@ module _ {S : Type 0} (takes : S → TextKind → List ℕ → S → Type 0)
       → Hands takes refuses (λ ls. pairs_of_lines old (line ∷ ls)) (λ ls. pairs_of_lines new ls) result s t
   hands_line old new line (Ok x) s t h e f g =
       let p : Pair = (kind.Body, line_text old.charset old.is_html old.is_open line) in
-      record { pairs = p ∷ []; taken = (t, h, refl); rest = λ ls. ap (λ (l : List Pair). p ∷ l) (rw (e, f, g) refl) }
+      record { pairs = p ∷ []; taken = (t, h, refl); rest = grind arith }
   hands_line old new line (Err OutOfMemory) s t h e f g = grind arith
   hands_line old new line (Err (Sink fault)) s t h e f g =
       let p : Pair = (kind.Body, line_text old.charset old.is_html old.is_open line) in

@@ -1,5 +1,5 @@
 -- The parameters of a value are those of its pieces, and no other list is.
-use Rattle.mime_text.proofs.Words.{◌≡◌, ◌≤◌, ℕ, zero, suc, List, [], ◌∷◌, Option, Some, None, length, refl, sym, subst, arith, Parameter, piece_of, AreParameters, none_left, piece_first, parameters_after}
+use Rattle.mime_text.proofs.Words.{◌≡◌, ◌≤◌, ℕ, zero, suc, List, [], ◌∷◌, Option, Some, None, length, refl, arith, Parameter, piece_of, AreParameters, none_left, piece_first, parameters_after}
 use Rattle.mime_text.proofs.ParameterLemmas.{after-step, later-shorter}
 
 pub only_parameters : (begin : Option (List ℕ)) (ps : List Parameter) → AreParameters begin ps → ps
@@ -10,8 +10,7 @@ only_parameters (Some bs) ps (piece_first {later = later} rest) =
 
 first_piece : (bs : List ℕ) → AreParameters (piece_of bs).later (parameters_after (piece_of bs).later)
     → AreParameters (Some bs) (parameters_after (Some bs))
-first_piece bs later = subst (λ (ps : List Parameter). AreParameters (Some bs) ps) (sym (after-step bs))
-    (piece_first later)
+first_piece bs later = grind (arith, after-step, piece_first)
 
 no_bytes : AreParameters (piece_of []).later (parameters_after (piece_of []).later)
 unfolding piece_of
@@ -29,5 +28,4 @@ within_bytes (suc n) (b ∷ bs) few = first_piece (b ∷ bs) (go (piece_of (b �
     go (Some rest) e later = let less = later-shorter (b ∷ bs) rest e in later rest (omega (arith, less))
 
 pub are_parameters : (begin : Option (List ℕ)) → AreParameters begin (parameters_after begin)
-are_parameters None = none_left
-are_parameters (Some bs) = within_bytes (length bs) bs (omega arith)
+are_parameters begin = grind (arith, none_left, within_bytes)

@@ -18,7 +18,7 @@ length-value_and_rest : (bs : List ℕ) → length (value_and_rest bs).1 ≤ len
 length-value_and_rest bs = grind (arith, length-quoted, length-split_while)
 
 same_some : (x y : List ℕ) → Some x ≡ Some y → x ≡ y
-same_some x y h = ap (λ (o : Option (List ℕ)). unwrap_or o x) h
+same_some x y h = grind (arith, unwrap_or)
 
 length-after : (bs rest : List ℕ) (o : Option (List ℕ × List ℕ)) → cut_at 0x3B bs ≡ o → option_map (λ parts. parts.1) o
     ≡ Some rest → length rest < length bs
@@ -67,8 +67,7 @@ later-shorter bs rest h = grind (
 
 within-nil : (n : ℕ) → parameters_within n [] ≡ []
 unfolding piece_of
-within-nil zero = refl
-within-nil (suc n) = refl
+within-nil n = grind arith
 
 within-enough : (n m : ℕ) (bs : List ℕ) → length bs ≤ n → length bs ≤ m → parameters_within n bs
     ≡ parameters_within m bs
@@ -90,15 +89,15 @@ after-step (b ∷ bs) = grind (arith, later-shorter (b ∷ bs), within-enough)
 -- a piece that is no parameter, a parameter with another name, and one with the name
 pub named-none : (name bs : List ℕ) → (piece_of bs).parameter ≡ None → first_named name (parameters_after (Some bs))
     ≡ first_named name (parameters_after (piece_of bs).later)
-named-none name bs e = ap (first_named name) (after-step bs) ∙ rw e refl
+named-none name bs e = grind (arith, after-step)
 
 pub named-other : (name bs : List ℕ) (p : Parameter) → (piece_of bs).parameter ≡ Some p → is_named p.name name ≡ false
     → first_named name (parameters_after (Some bs)) ≡ first_named name (parameters_after (piece_of bs).later)
-named-other name bs p e f = ap (first_named name) (after-step bs) ∙ rw e (rw f refl)
+named-other name bs p e f = grind (arith, after-step)
 
 pub named-found : (name bs : List ℕ) (p : Parameter) → (piece_of bs).parameter ≡ Some p → is_named p.name name ≡ true
     → first_named name (parameters_after (Some bs)) ≡ Some p.value
-named-found name bs p e f = ap (first_named name) (after-step bs) ∙ rw e (rw f refl)
+named-found name bs p e f = grind (arith, after-step)
 
 abbrev parameter_of : List ℕ → List ℕ → Parameter
 parameter_of name value = record { name = name; value = value }
@@ -122,8 +121,7 @@ pub later-measure : {A : Type 0} (before : Option A) (now : A → List ℕ) (a :
     → (piece_of (now a)).later ≡ o
     → option_map_or (λ rest. suc (length rest)) o 0 < option_map_or (λ rest. suc (length rest)) (option_map now before)
     0
-later-measure before now a None is e = rw is (omega arith)
-later-measure before now a (Some rest) is e = grind (arith, later-shorter (now a) rest)
+later-measure before now a o h h2 = grind (arith, later-shorter)
 
 -- a piece that is a name, `=` and a value
 pub piece-parameter : (text rest : List ℕ) (sign : ℕ) → (split_while is_parameter_name_byte text).1 ≡ sign ∷ rest
@@ -152,8 +150,7 @@ size_of (Some p) = length p.value
 
 size-piece_after : (name after : List ℕ) → size_of (piece_after name after).parameter ≤ length after
 unfolding piece_after
-size-piece_after name [] = omega arith
-size-piece_after name (c ∷ bs) = grind (arith, size-value (after_blanks bs), length-after_blanks bs)
+size-piece_after name after = grind (arith, size-value, length-after_blanks)
 
 size-piece : (bs : List ℕ) → size_of (piece_of bs).parameter ≤ length bs
 unfolding piece_of piece_after
@@ -175,9 +172,7 @@ size-within (suc n) name bs found h = by_piece (piece_of bs).parameter refl (λ 
     by_later : (o : Option (List ℕ)) → (piece_of bs).later ≡ o
         → ((rest : List ℕ) → first_named name (parameters_within n rest) ≡ Some found → length found ≤ length rest)
         → first_named name (others o) ≡ Some found → length found ≤ length bs
-    by_later None e same h = absurd (cc h)
-    by_later (Some rest) e same h = let less = later-shorter bs rest e in let size = same rest h
-        in omega (arith, less, size)
+    by_later o h h2 h3 = grind (arith, later-shorter)
 
     by_name : (p : Parameter) → (piece_of bs).parameter ≡ Some p → (t : Bool) → is_named p.name name ≡ t
         → ((rest : List ℕ) → first_named name (parameters_within n rest) ≡ Some found → length found ≤ length rest)
@@ -186,9 +181,7 @@ size-within (suc n) name bs found h = by_piece (piece_of bs).parameter refl (λ 
         → length found ≤ length bs
     by_name p e true f same h =
         let here = size-piece bs in
-        let size = ap size_of e in
-        let found_is = ap length (same_some p.value found h) in
-        omega (arith, here, size, found_is)
+        grind (arith, same_some)
     by_name p e false f same h = by_later (piece_of bs).later refl same h
 
     by_piece : (o : Option Parameter) → (piece_of bs).parameter ≡ o
@@ -202,4 +195,4 @@ size-after name value found o h h2 = grind (arith, length-after_semicolon, size-
 
 pub parameter-size : (name value found : List ℕ) → parameter name value ≡ Some found → length found ≤ length value
 unfolding parameter
-parameter-size name value found h = size-after name value found (after_semicolon value) refl h
+parameter-size name value found h = grind (arith, size-after)

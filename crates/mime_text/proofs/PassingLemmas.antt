@@ -1,12 +1,12 @@
 -- What a part reader's calls give to a sink, and what is known of the facts after them.
-use Rattle.mime_text.proofs.Words.{◌≡◌, ◌∙◌, ◌++◌, ℕ, Bool, true, false, List, [], ◌∷◌, Option, Some, None, refl, sym, ap, subst, append_assoc, arith, if◌then◌else◌, Result, Ok, Err, OnOk, IfErr, is_empty, HeaderField, fields_of, HasLines, taken_of, has_empty, More, Ended, TextKind, SinkFault, TextFault, OutOfMemory, DefaultType, TextPlain, Frame, State, PartReader, Pair, ComingPairs, Gave, Broke, Hands, shape_of, facts_of, pairs_to_come, StreamPlace, Skip, InHeader, InLeaf, place_after_hit, Nest, lead_to, texts_of_message, PassedPairs, Stopped, PassesPairs, IsOver, given_from, header_texts, ending, given_after_header, given_after_delimiter, ComesAt, Comes, ComesAfterHeader, ComesEndingAt, ComesEnding, KnowsAt, KnowsFacts, NotesFacts}
+use Rattle.mime_text.proofs.Words.{◌≡◌, ◌∙◌, ◌++◌, ℕ, Bool, true, false, List, [], ◌∷◌, Option, Some, None, refl, sym, ap, subst, append_assoc, arith, if◌then◌else◌, Result, Ok, Err, OnOk, IfErr, is_empty, HeaderField, fields_of, HasLines, taken_of, has_empty, More, Ended, TextKind, SinkFault, TextFault, OutOfMemory, DefaultType, TextPlain, Frame, State, PartReader, Pair, ComingPairs, Gave, Broke, Hands, shape_of, facts_of, pairs_to_come, StreamPlace, InHeader, InLeaf, place_after_hit, Nest, lead_to, texts_of_message, PassedPairs, Stopped, PassesPairs, IsOver, given_from, header_texts, ending, given_after_header, given_after_delimiter, ComesAt, Comes, ComesAfterHeader, ComesEndingAt, ComesEnding, KnowsAt, KnowsFacts, NotesFacts}
 use Rattle.std.proofs.lemmas.List.{append-nil}
 use Rattle.std.specs.Result.{result_or}
 use Rattle.header_text.specs.declared.header.Header.{Header}
 use Rattle.mime_text.specs.declared.header.facts.Facts.{Facts}
 use Rattle.mime_text.specs.declared.parts.part_reader.State.TheVariants as state
 use Rattle.mime_text.specs.declared.parts.nesting.Lead.{Lead}
-use Rattle.mime_text.specs.declared.parts.nesting.Lead.TheVariants.{Nowhere, Piece, Epilogue}
+use Rattle.mime_text.specs.declared.parts.nesting.Lead.TheVariants.{Nowhere}
 use Rattle.mime_text.proofs.StepLemmas.{value-header, given-hit, given-leaf_line, given-more, given-ended, given-leaf, empty_ends, fields-on, given-message}
 
 abbrev Line : Type 0
@@ -22,13 +22,7 @@ ended-empty b e = grind arith
 pub comes-first : (nest : Nest) (header : Header) → nest ≡ record { frames = []; left = 16 } → HasLines header []
     → (held : List Line) × HasLines header held × (has_empty held ≡ false)
     × ((ms : List Line) → texts_of_message ms ≡ given_from nest.frames (InHeader true nest.left TextPlain held) ms)
-comes-first nest header e h = (
-  [],
-  h,
-  refl,
-  λ ms. given-message ms
-      ∙ ap (λ (n : Nest). given_from n.frames (InHeader true n.left TextPlain []) ms) (sym e),
-)
+comes-first nest header e h = grind (arith, given-message)
 
 -- what an entity gives that ends here
 ending-is : (r : PartReader) (lead : Lead) (fields : List HeaderField) (c : ComingPairs)
@@ -56,17 +50,14 @@ delimits : (r : PartReader) (n : Nest) (lead : Lead) (l : Line) (h : List Frame 
 delimits r n lead l h e q c k = go r.state k
   where
     go : (s : State) → ComesAt s r c → ComesEndingAt s (record r { nesting = n }) lead (λ ms. c (l ∷ ms))
-    go state.Skipping k = λ ms. k (l ∷ ms) ∙ given-hit r.nesting.frames Skip l h ms e ∙ q ms
+    go state.Skipping k = grind (arith, given-hit)
     go (state.InHeader counted d) k = (
       k.0,
       k.1,
-      λ ms. k.3 (l ∷ ms) ∙ given-hit r.nesting.frames (InHeader counted r.nesting.left d k.0) l h ms e
-          ∙ ap (λ (ps : List Pair). ps ++ given_from h.0 h.1 ms) (value-header counted r.nesting.left d k.0 k.2)
-          ∙ ap (λ (ps : List Pair). header_texts counted (fields_of k.0) ++ ps) (q ms),
+      grind (arith, given-hit, value-header),
     )
     go state.InLeaf k =
-        λ ms. k (l ∷ ms) ∙ given-hit r.nesting.frames (InLeaf (pairs_to_come r.leaf)) l h ms e
-        ∙ ap (λ (ps : List Pair). pairs_to_come r.leaf [] ++ ps) (q ms)
+        grind (arith, given-hit)
 
 pub delimited : (r : PartReader) (n : Nest) (lead : Lead) (l : Line) → lead_to {A = Pair} lead n
     ≡ place_after_hit r.nesting.frames l → (lead ≡ Nowhere → ⊥)
@@ -77,7 +68,7 @@ delimited r n lead l h h2 c h3 = grind (arith, delimits)
 
 one_more : (f : Facts) (ls : List Line) (l : Line) → ((ms : List Line) → f ≡ facts_of (fields_of (ls ++ ms)))
     → (ms : List Line) → f ≡ facts_of (fields_of ((ls ++ l ∷ []) ++ ms))
-one_more f ls l k ms = k (l ∷ ms) ∙ ap (λ (ks : List Line). facts_of (fields_of ks)) (sym (append_assoc ls (l ∷ []) ms))
+one_more f ls l k ms = grind (arith, append_assoc)
 
 -- a delimiter line isn't part of the message's own header
 pub facts-delimited : (r n : PartReader) (nest : Nest) (lead : Lead) (l : Line) → lead_to {A = Pair} lead nest
@@ -87,12 +78,10 @@ facts-delimited r n nest lead l e away same ls k = let P : Option Facts → Type
     in subst P (sym same) (go r.facts k)
   where
     outside : (x : Lead) → lead_to {A = Pair} x nest ≡ None → (x ≡ Nowhere → ⊥) → ⊥
-    outside Nowhere q away = away refl
-    outside (Piece d) q away = absurd (cc)
-    outside Epilogue q away = absurd (cc)
+    outside x h h2 = grind arith
 
     go : (o : Option Facts) → KnowsAt o r ls → KnowsAt o n (ls ++ l ∷ [])
-    go None k = absurd (outside lead (e ∙ ap (λ (fs : List Frame). place_after_hit {A = Pair} fs l) k.outside) away)
+    go None k = grind (arith, outside)
     go (Some f) k = one_more f ls l k
 
 -- the facts when the header has ended
@@ -107,7 +96,7 @@ facts-ended r n h l push taken notes ls k = go r.facts notes k
         let P : Option Facts → Type 0 = λ o. KnowsAt o n (ls ++ l ∷ []) in
         let t : is_empty l ≡ true = empty_ends ls l true k.open_ended
         (ended-empty (has_empty (ls ++ l ∷ [])) (taken ls k.lines)) in
-        subst P (sym (e (ls ++ l ∷ []) (push ls k.lines))) (λ ms. ap facts_of (sym (fields-on ls l ms k.open_ended t)))
+        grind (arith, fields-on)
     go (Some f) e k = let P : Option Facts → Type 0 = λ o. KnowsAt o n (ls ++ l ∷ [])
         in subst P (sym e) (one_more f ls l k)
 
@@ -129,8 +118,7 @@ header-is_first : (r : PartReader) (counted : Bool) (d : DefaultType) (fields : 
     → ((ls : List Line) → HasLines r.header ls → fields ≡ fields_of ls)
     → (c : ComingPairs) (k : ComesAfterHeader r counted d c) (ms : List Line) → c ms
     ≡ header_texts counted fields ++ after_lines r d k.0 ms
-header-is_first r counted d fields f c k ms = k.2 ms
-    ∙ ap (λ (fs : List HeaderField). header_texts counted fs ++ after_lines r d k.0 ms) (sym (f k.0 k.1))
+header-is_first r counted d fields f c k ms = grind arith
 
 module _ {S : Type 0} (takes : S → TextKind → List ℕ → S → Type 0)
     (refuses : S → TextKind → List ℕ → SinkFault → S → Type 0) where
@@ -162,8 +150,7 @@ module _ {S : Type 0} (takes : S → TextKind → List ℕ → S → Type 0)
             λ c k. (
               R c k,
               a c k,
-              λ ms. e c k ms
-                  ∙ ap (λ (ps : List Pair). ps ++ R c k ms) (h.rest ms ∙ append-nil h.pairs),
+              grind (arith, append-nil),
             );
       }
 
@@ -177,8 +164,7 @@ module _ {S : Type 0} (takes : S → TextKind → List ℕ → S → Type 0)
         broken = h.broken;
         front = λ c k ms. (
           (h.front ms).0 ++ R c k ms,
-          e c k ms ∙ ap (λ (ps : List Pair). ps ++ R c k ms) (h.front ms).1
-              ∙ append_assoc h.pairs (h.front ms).0 (R c k ms),
+          grind (arith, append_assoc),
         );
       }
 
@@ -196,7 +182,7 @@ module _ {S : Type 0} (takes : S → TextKind → List ℕ → S → Type 0)
   -- all was given, and then memory ran out
   pub broke-memory_after : (A : ComingPairs) (s t : S) → Gave takes refuses A (λ _. []) s t
       → Broke takes refuses A OutOfMemory s t
-  broke-memory_after A s t h = record { pairs = h.pairs; broken = h.taken; front = λ ms. ([], h.rest ms) }
+  broke-memory_after A s t h = grind arith
 
   -- the header's texts were given, and then the body begins or memory runs out
   pub header-passes : {T E : Type 0} (r : PartReader) (counted : Bool) (d : DefaultType) (fields : List HeaderField)
@@ -220,9 +206,9 @@ module _ {S : Type 0} (takes : S → TextKind → List ℕ → S → Type 0)
       → PassesPairs takes refuses (Comes r) (Comes n) (λ c ms. c (l ∷ ms)) result s t
   leaf-passes r n l (Ok x) s t e p q away h =
       let at : (c : ComingPairs) → Comes r c → ComesAt state.InLeaf r c =
-      λ c k. (let P : State → Type 0 = λ u. ComesAt u r c in subst P e k) in
+      grind arith in
       let here : ComingPairs = given_from n.nesting.frames (InLeaf (pairs_to_come n.leaf)) in
-      let comes : Comes n here = (let P : State → Type 0 = λ u. ComesAt u n here in subst P (sym (p ∙ e)) (λ ms. refl))
+      let comes : Comes n here = grind arith
       in
       record {
         pairs = h.pairs;
@@ -238,16 +224,14 @@ module _ {S : Type 0} (takes : S → TextKind → List ℕ → S → Type 0)
       }
   leaf-passes r n l (Err fault) s t e p q away h =
       let at : (c : ComingPairs) → Comes r c → ComesAt state.InLeaf r c =
-      λ c k. (let P : State → Type 0 = λ u. ComesAt u r c in subst P e k) in
+      grind arith in
       let later : ComingPairs = λ ks. (h.front ks).0 in
       record {
         pairs = h.pairs;
         broken = h.broken;
         front = λ c k ms. (
           given_from r.nesting.frames (InLeaf later) ms,
-          at c k (l ∷ ms) ∙ given-leaf_line r.nesting.frames (pairs_to_come r.leaf) l ms away
-              ∙ given-leaf r.nesting.frames (λ ks. pairs_to_come r.leaf (l ∷ ks)) later h.pairs (λ ks. (h.front ks).1)
-              ms,
+          grind (arith, given-leaf_line, given-leaf),
         );
       }
 
@@ -259,25 +243,16 @@ module _ {S : Type 0} (takes : S → TextKind → List ℕ → S → Type 0)
       → PassedPairs takes refuses (Comes r) (Comes n) (λ c ms. c (l ∷ ms)) s s
   more-passed r n l counted d s e p q away push taken =
       let at : (c : ComingPairs) → Comes r c → ComesAt (state.InHeader counted d) r c =
-      λ c k. (let P : State → Type 0 = λ u. ComesAt u r c in subst P e k) in
+      grind arith in
       let here : List Line → ComingPairs = λ held. given_from n.nesting.frames
       (InHeader counted n.nesting.left d (held ++ l ∷ [])) in
       let still : (held : List Line) → HasLines r.header held → has_empty (held ++ l ∷ []) ≡ false =
-      λ held x. more-open (has_empty (held ++ l ∷ [])) (taken held x) in
-      let comes : (held : List Line) → HasLines r.header held → Comes n (here held) = λ held x.
-      (let P : State → Type 0 = λ u. ComesAt u n (here held)
-      in subst P (sym (p ∙ e)) (held ++ l ∷ [], push held x, still held x, λ ms. refl)) in
+      grind (arith, more-open) in
+      let comes : (held : List Line) → HasLines r.header held → Comes n (here held) = grind arith in
       record {
         pairs = [];
         taken = refl;
-        rest = λ c k. (
-          here (at c k).0,
-          comes (at c k).0 (at c k).1,
-          λ ms. (at c k).3 (l ∷ ms)
-              ∙ given-more r.nesting counted d (at c k).0 l ms away
-              (empty_ends (at c k).0 l false (at c k).2 (still (at c k).0 (at c k).1))
-              ∙ ap (λ (x : Nest). given_from x.frames (InHeader counted x.left d ((at c k).0 ++ l ∷ [])) ms) (sym q),
-        );
+        rest = grind (arith, given-more, empty_ends);
       }
 
   pub ended-comes : (r n : PartReader) (l : Line) (counted : Bool) (d : DefaultType) → r.state
@@ -286,9 +261,8 @@ module _ {S : Type 0} (takes : S → TextKind → List ℕ → S → Type 0)
       → ((ls : List Line) → HasLines r.header ls → Ended ≡ taken_of (ls ++ l ∷ []))
       → (c : ComingPairs) → Comes r c → ComesAfterHeader n counted d (λ ms. c (l ∷ ms))
   ended-comes r n l counted d e q away push taken c k =
-      let at : ComesAt (state.InHeader counted d) r c = (let P : State → Type 0 = λ u. ComesAt u r c in subst P e k) in
-      let t : is_empty l ≡ true = empty_ends at.0 l true at.2
-      (ended-empty (has_empty (at.0 ++ l ∷ [])) (taken at.0 at.1)) in
+      let at : ComesAt (state.InHeader counted d) r c = grind arith in
+      let t : is_empty l ≡ true = grind (arith, empty_ends, ended-empty) in
       let fields = fields_of (at.0 ++ l ∷ []) in (
         at.0 ++ l ∷ [],
         push at.0 at.1,

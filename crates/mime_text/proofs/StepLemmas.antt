@@ -1,5 +1,5 @@
 -- The place of a reader after one more line.
-use Rattle.mime_text.proofs.Words.{◌≡◌, ◌∙◌, ◌++◌, ℕ, zero, suc, Bool, true, false, ◌||◌, List, [], ◌∷◌, Option, Some, None, refl, sym, ap, append_assoc, arith, flat_map, flat_map-append, is_empty, lines, fields_of, before_blanks, unfolded_body, has_empty, base64_bytes, bytes_of_sextets, Charset, DefaultType, TextPlain, Shape, Multipart, Message, Text, Other, Frame, Identity, QuotedPrintable, Base64, Pair, ComingPairs, texts_of_fields, piece_of, parameter, shape_of, charset_in, transfer_in, name_texts, leaf_texts, body_pairs, body_lines, multipart_pieces, parts, parts_by, is_left, StreamPlace, InHeader, InLeaf, place_after_hit, counted_part, header_parts, value, after_header, inner_step, Nest, part_texts, texts_of_message, given_from, counted_texts, header_texts, given_after_header}
+use Rattle.mime_text.proofs.Words.{◌≡◌, ◌∙◌, ◌++◌, ℕ, zero, suc, Bool, true, false, ◌||◌, List, [], ◌∷◌, Option, Some, None, refl, ap, append_assoc, arith, flat_map, flat_map-append, is_empty, lines, fields_of, before_blanks, unfolded_body, has_empty, base64_bytes, bytes_of_sextets, Charset, DefaultType, TextPlain, Shape, Frame, Pair, ComingPairs, texts_of_fields, piece_of, parameter, shape_of, name_texts, leaf_texts, body_lines, parts, parts_by, is_left, StreamPlace, InHeader, InLeaf, place_after_hit, counted_part, header_parts, value, after_header, inner_step, Nest, part_texts, texts_of_message, given_from, counted_texts, header_texts, given_after_header}
 use Rattle.std.proofs.lemmas.List.{append-nil}
 use Rattle.mime_text.specs.declared.leaf.transfer.TransferEncoding.{TransferEncoding}
 use Rattle.mime_text.proofs.StreamLaws.{IsHeader, fields_of-ended, whole_given}
@@ -20,8 +20,7 @@ has_empty-push (k ∷ ls) l = grind (arith, has_empty-push ls l)
 -- whether a line ends a header
 pub empty_ends : (ls : List Line) (l : Line) (t : Bool) → has_empty ls ≡ false → has_empty (ls ++ l ∷ []) ≡ t
     → is_empty l ≡ t
-empty_ends ls l t e q = let p = has_empty-push ls l in let r : (false || is_empty l) ≡ t =
-    ap (λ (b : Bool). b || is_empty l) (sym e) ∙ sym p ∙ q in r
+empty_ends ls l t e q = grind (arith, has_empty-push)
 
 pub fields-ended : (ls : List Line) (l : Line) → has_empty ls ≡ false → is_empty l ≡ true → fields_of (ls ++ l ∷ [])
     ≡ fields_of ls
@@ -29,8 +28,7 @@ fields-ended ls l e t = fields_of-ended ls l [] (IsHeader-of ls e) t
 
 pub fields-on : (ls : List Line) (l : Line) (ms : List Line) → has_empty ls ≡ false → is_empty l ≡ true
     → fields_of ((ls ++ l ∷ []) ++ ms) ≡ fields_of (ls ++ l ∷ [])
-fields-on ls l ms e t = ap fields_of (append_assoc ls (l ∷ []) ms) ∙ fields_of-ended ls l ms (IsHeader-of ls e) t
-    ∙ sym (fields-ended ls l e t)
+fields-on ls l ms e t = grind (arith, append_assoc, fields_of-ended, IsHeader-of, fields-ended)
 
 counted-is : (c : Bool) (ls : List Line) → flat_map part_texts (counted_part c ls) ≡ counted_texts c (fields_of ls)
 counted-is c ls = grind (arith, append-nil)
@@ -55,12 +53,7 @@ name-none = refl
 pub leaf_texts-none : (transfer : TransferEncoding) (charset : Charset) (is_html : Bool)
     → leaf_texts transfer charset is_html [] ≡ []
 unfolding leaf_texts lines base64_bytes bytes_of_sextets
-leaf_texts-none Identity charset true = refl
-leaf_texts-none Identity charset false = refl
-leaf_texts-none QuotedPrintable charset true = refl
-leaf_texts-none QuotedPrintable charset false = refl
-leaf_texts-none Base64 charset true = refl
-leaf_texts-none Base64 charset false = refl
+leaf_texts-none transfer charset is_html = grind arith
 
 -- the name, if a depth is left
 abbrev name_at : ℕ → List Line → List Pair
@@ -77,21 +70,7 @@ parts-none (suc n) d ls e =
     go : (m : ℕ) → ((ks : List Line) → body_lines ks ≡ [] → flat_map part_texts (parts shape_of m TextPlain ks)
         ≡ name_at m ks) → (sh : Shape)
         → flat_map part_texts (parts_by shape_of (λ e ks. parts shape_of m e ks) (is_left m) sh ls) ≡ []
-    go m later (Multipart b f) = ap (λ (ks : List Line). flat_map part_texts
-        (flat_map (parts shape_of m f) (multipart_pieces b ks))) e
-    go zero later Message = refl
-    go (suc m) later Message =
-        ap (λ (ks : List Line). texts_of_fields (fields_of ks) ++ flat_map part_texts
-        (parts shape_of (suc m) TextPlain ks)) e
-        ∙ ap (λ (ps : List Pair). ps ++ flat_map part_texts (parts shape_of (suc m) TextPlain [])) fields-none
-        ∙ later [] refl ∙ name-none
-    go m later (Text h) =
-        append-nil (body_pairs (leaf_texts (transfer_in (fields_of ls)) (charset_in (fields_of ls)) h (body_lines ls)))
-        ∙ ap (λ (ks : List Line). body_pairs (leaf_texts (transfer_in (fields_of ls)) (charset_in (fields_of ls)) h ks))
-        e
-        ∙ ap (λ (ts : List Line). body_pairs ts)
-        (leaf_texts-none (transfer_in (fields_of ls)) (charset_in (fields_of ls)) h)
-    go m later Other = refl
+    go m h sh = grind (arith, flat_map, parts, fields-none, name-none, append-nil, leaf_texts-none)
 
 -- what an entity gives that ends in its header
 pub value-header : (c : Bool) (n : ℕ) (d : DefaultType) (held : List Line) → has_empty held ≡ false
@@ -168,4 +147,4 @@ given-leaf fs f g qs e (l ∷ ms) = go (place_after_hit fs l) refl
 -- from the message's first line on
 pub given-message : (ms : List Line) → texts_of_message ms ≡ given_from [] (InHeader true 16 TextPlain []) ms
 unfolding texts_of_message
-given-message ms = sym (whole_given shape_of part_texts true 16 TextPlain ms)
+given-message ms = grind (arith, whole_given)

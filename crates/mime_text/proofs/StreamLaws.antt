@@ -1,5 +1,5 @@
 -- Reading one line at a time gives what the parts of the outermost split give: induction over the lines and the depths.
-use Rattle.mime_text.proofs.Words.{◌≡◌, ℕ, zero, suc, Bool, true, false, cond, List, [], ◌∷◌, ◌++◌, Option, Some, None, refl, sym, ap, ◌∙◌, append_assoc, arith, flat_map, AllByRecursion, flat_map-append, is_empty, HeaderField, lines_before_empty, fields_of, DefaultType, Shape, Multipart, Message, Text, Other, Frame, Part, Entity, Counted, body_lines, is_closing, is_delimiter, preamble_and_pieces, multipart_pieces, parts, parts_by, is_left, StreamPlace, Skip, InHeader, InLeaf, or_else, own_hit, place_after_hit, counted_part, header_parts, value, after_header, inner_step, step_by, values_given}
+use Rattle.mime_text.proofs.Words.{◌≡◌, ℕ, zero, suc, Bool, true, false, cond, List, [], ◌∷◌, ◌++◌, Option, Some, None, refl, sym, ap, ◌∙◌, append_assoc, arith, flat_map, AllByRecursion, flat_map-append, is_empty, HeaderField, lines_before_empty, fields_of, DefaultType, Shape, Multipart, Message, Text, Other, Frame, Part, Entity, body_lines, is_closing, is_delimiter, preamble_and_pieces, multipart_pieces, parts, parts_by, is_left, StreamPlace, Skip, InHeader, InLeaf, or_else, own_hit, place_after_hit, counted_part, header_parts, value, after_header, inner_step, step_by, values_given}
 use Rattle.std.proofs.lemmas.List.{append-nil}
 
 abbrev Line : Type 0
@@ -12,12 +12,11 @@ IsHeader = AllByRecursion (λ l. is_empty l ≡ false)
 before_empty_of : (ls : List Line) (l : Line) (rest : List Line) → IsHeader ls → is_empty l ≡ true
     → lines_before_empty (ls ++ l ∷ rest) ≡ ls
 before_empty_of [] l rest h e = rw (e, lines_before_empty) refl
-before_empty_of (k ∷ ls) l rest h e = rw (h.0, lines_before_empty)
-    (ap (λ (t : List Line). k ∷ t) (before_empty_of ls l rest h.1 e))
+before_empty_of (k ∷ ls) l rest h e = grind (arith, before_empty_of ls l rest h.1 e)
 
 before_empty_all : (ls : List Line) → IsHeader ls → lines_before_empty ls ≡ ls
 before_empty_all [] h = refl
-before_empty_all (k ∷ ls) h = rw (h.0, lines_before_empty) (ap (λ (t : List Line). k ∷ t) (before_empty_all ls h.1))
+before_empty_all (k ∷ ls) h = grind (arith, before_empty_all ls h.1)
 
 -- the fields of a header are known once it has ended
 pub fields_of-ended : (ls : List Line) (l : Line) (rest : List Line) → IsHeader ls → is_empty l ≡ true
@@ -36,9 +35,7 @@ IsHeader-push (k ∷ ls) l h e = (h.0, IsHeader-push ls l h.1 e)
 
 counted_part-ended : (c : Bool) (lines : List Line) (l : Line) (rest : List Line) → IsHeader lines → is_empty l ≡ true
     → counted_part c (lines ++ l ∷ rest) ≡ counted_part c lines
-counted_part-ended true lines l rest h e =
-    ap (λ (fs : List HeaderField). Counted fs ∷ []) (fields_of-ended lines l rest h e)
-counted_part-ended false lines l rest h e = refl
+counted_part-ended c lines l rest h h2 = grind (arith, fields_of-ended)
 
 header_parts-ended : (c : Bool) (lines : List Line) (l : Line) (rest : List Line) → IsHeader lines → is_empty l ≡ true
     → header_parts c (lines ++ l ∷ rest) ≡ header_parts c lines
@@ -72,7 +69,7 @@ module _ {A : Type 0} (shape_of : DefaultType → List HeaderField → Shape) (g
 
   before_all : (ls : List Line) → before [] ls ≡ ls
   before_all [] = refl
-  before_all (l ∷ ls) = ap (λ (t : List Line). l ∷ t) (before_all ls)
+  before_all (l ∷ ls) = grind (arith, before_all ls)
 
   -- what comes from that line on
   abbrev later_by : Lead → List A → List Line → List A
@@ -90,19 +87,7 @@ module _ {A : Type 0} (shape_of : DefaultType → List HeaderField → Shape) (g
   preamble_is : (f : Frame) (outer : List Frame) (ls : List Line) → (preamble_and_pieces f.boundary (before outer ls)).0
       ≡ before (f ∷ outer) ls
   preamble_is f outer [] = refl
-  preamble_is f outer (l ∷ ls) = by_outer (hits outer l) (preamble_is f outer ls)
-    where
-      by_own : (c d : Bool) (p : List Line × List (List Line)) (x : List Line) → p.0 ≡ x
-          → (elim c as (λ _. List Line × List (List Line))
-          [ true ↦ ([], []) | false ↦ cond d ([], p.0 ∷ p.1) (l ∷ p.0, p.1) ]).0
-          ≡ before_by (own_hit c d f outer) l x
-      by_own c d p x h = grind arith
-
-      by_outer : (o : Lead) → (preamble_and_pieces f.boundary (before outer ls)).0 ≡ before (f ∷ outer) ls
-          → (preamble_and_pieces f.boundary (before_by o l (before outer ls))).0
-          ≡ before_by (or_else o (own_hit (is_closing f.boundary l) (is_delimiter f.boundary l) f outer)) l
-          (before (f ∷ outer) ls)
-      by_outer o h = grind (arith, by_own)
+  preamble_is f outer (l ∷ ls) = grind (arith, preamble_is f outer ls)
 
   -- what the pieces of a multipart give
   abbrev of_pieces : ℕ → DefaultType → List (List Line) → List A
@@ -169,8 +154,7 @@ module _ {A : Type 0} (shape_of : DefaultType → List HeaderField → Shape) (g
   one_more : (c : Bool) (n : ℕ) (d : DefaultType) (lines : List Line) (l : Line) (rest : List Line)
       → value shape_of gives (InHeader c n d (lines ++ l ∷ [])) rest
       ≡ value shape_of gives (InHeader c n d lines) (l ∷ rest)
-  one_more c n d lines l rest = ap (λ (ks : List Line). flat_map gives
-      (counted_part c ks ++ parts shape_of (suc n) d ks)) (append_assoc lines (l ∷ []) rest)
+  one_more c n d lines l rest = grind (arith, flat_map, parts, append_assoc)
 
   by_place : (place : StreamPlace A) (ls : List Line) (fs : List Frame) (l : Line) → AllStreams ls → AllFrames ls
       → IsFine place

@@ -18,8 +18,7 @@ is_open-line before [] = refl
 is_open-line before (c ∷ cs) =
     let turned : reverse (c ∷ cs) ++ before ≡ reverse cs ++ c ∷ before =
     ap (λ (l : List ℕ). l ++ before) (reverse-append (c ∷ []) cs) ∙ append_assoc (reverse cs) (c ∷ []) before in
-    ap is_open turned ∙ is_open-line (c ∷ before) cs
-    ∙ ap (λ (b : Bool). is_tag_open_after_all b cs) (is_open-step before c)
+    grind (arith, is_open-step, is_open-line (c ∷ before) cs)
 
 tagged_lines : (charset : Charset) (before : List ℕ) (o : Bool) (ls : List (List ℕ)) → is_open before ≡ o
     → map encode_utf8_all (lines_without_tags before (map (λ line. chars (text_of charset line)) ls))
@@ -34,7 +33,7 @@ tagged_lines charset before o (l ∷ ls) h =
 plain_lines : (charset : Charset) (o : Bool) (ls : List (List ℕ)) → map (text_of charset) ls
     ≡ texts_after charset false o ls
 plain_lines charset o [] = refl
-plain_lines charset o (l ∷ ls) = ap (λ (ts : List (List ℕ)). text_of charset l ∷ ts) (plain_lines charset o ls)
+plain_lines charset o (l ∷ ls) = grind (arith, plain_lines charset o ls)
 
 -- at the beginning no tag is open
 pub texts_begin : (charset : Charset) (is_html : Bool) (ls : List (List ℕ)) → texts_after charset is_html false ls
@@ -45,7 +44,7 @@ texts_begin charset is_html ls = grind (arith, plain_lines, tagged_lines)
 
 lacks-append : (c : ℕ) (xs ys : List ℕ) → Lacks c (xs ++ ys) → Lacks c xs × Lacks c ys
 lacks-append c [] ys h = (tt, h)
-lacks-append c (x ∷ xs) ys h = let rest = lacks-append c xs ys h.1 in ((h.0, rest.0), rest.1)
+lacks-append c (x ∷ xs) ys h = grind (arith, lacks-append c xs ys h.1)
 
 -- if no byte is this ASCII character, no character is
 lacks-chars : (c : ℕ) → c < 128 → (cs : List ℕ) → Lacks c (encode_utf8_all cs) → Lacks c cs
@@ -61,7 +60,7 @@ lacks-text c ascii text utf8 h = grind (arith, Lacks, lacks-chars, encodes-chars
 
 pub blanked-free : (cs : List ℕ) → Lacks 0x3C cs → blanked_tags false cs ≡ cs
 blanked-free [] h = refl
-blanked-free (c ∷ cs) h = rw h.0 (ap (λ (l : List ℕ). c ∷ l) (blanked-free cs h.1))
+blanked-free (c ∷ cs) h = grind (arith, blanked-free cs h.1)
 
 pub is_open-free : (cs : List ℕ) → Lacks 0x3C cs → is_tag_open_after_all false cs ≡ false
 is_open-free [] h = refl
@@ -69,10 +68,9 @@ is_open-free (c ∷ cs) h = rw h.0 (is_open-free cs h.1)
 
 pub free-text : (text : List ℕ) (o : Bool) → o ≡ false → IsUtf8 text → Lacks 0x3C text
     → encode_utf8_all (blanked_tags o (chars text)) ≡ text
-free-text text o e utf8 h = rw e (ap encode_utf8_all
-    (blanked-free (chars text) (lacks-text 0x3C (omega arith) text utf8 h)) ∙ encodes-chars text utf8)
+free-text text o e utf8 h = grind (arith, encode_utf8_all, blanked-free, lacks-text, encodes-chars)
 
 pub free-after : (text : List ℕ) (o : Bool) → o ≡ false → IsUtf8 text → Lacks 0x3C text
     → is_tag_open_after_all o (chars text)
     ≡ false
-free-after text o e utf8 h = rw e (is_open-free (chars text) (lacks-text 0x3C (omega arith) text utf8 h))
+free-after text o e utf8 h = grind (arith, is_open-free, lacks-text)

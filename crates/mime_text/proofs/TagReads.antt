@@ -1,5 +1,5 @@
 -- The loop that blanks the tags of a text, one span at a time.
-use Rattle.mime_text.proofs.Words.{◌≡◌, ℕ, zero, suc, ◌+◌, ◌≤◌, ◌<◌, Bool, true, false, List, [], ◌∷◌, ◌++◌, length, drop, get_or, replicate, chars, encode_utf8, encode_utf8_all, IsUtf8, refl, sym, ap, ap₂, ◌∙◌, subst, arith, length-append, append_assoc, not, ◌≢◌, ◌==◌, option_map, Option, eqb-true, false_from_ne_true, IsAscii, take_at, drop_at, get_or_at, length_push, length-replicate, replicate-append-replicate, IsUtf8-take, IsUtf8-drop, IsUtf8-from_ascii, IsCharBoundary-before_ascii, IsCharBoundary-after_ascii, chars-append, chars-IsAscii, encode_ascii, encodes-append, encodes-chars, length-le-encodes, cut_at, Lacks, IsCut, cut_at-none, cut_at-is, is_tag_open_after, is_tag_open_after_all, blanked_tags, span_end, shown_span}
+use Rattle.mime_text.proofs.Words.{◌≡◌, ℕ, zero, suc, ◌+◌, ◌≤◌, ◌<◌, Bool, true, false, List, [], ◌∷◌, ◌++◌, length, drop, get_or, replicate, chars, encode_utf8, encode_utf8_all, IsUtf8, refl, sym, ap, ◌∙◌, subst, arith, length-append, append_assoc, not, ◌≢◌, ◌==◌, option_map, Option, eqb-true, false_from_ne_true, IsAscii, take_at, drop_at, get_or_at, length_push, length-replicate, replicate-append-replicate, IsUtf8-take, IsUtf8-drop, IsUtf8-from_ascii, IsCharBoundary-before_ascii, IsCharBoundary-after_ascii, chars-append, chars-IsAscii, encode_ascii, encodes-append, encodes-chars, length-le-encodes, cut_at, Lacks, IsCut, cut_at-none, cut_at-is, is_tag_open_after, is_tag_open_after_all, blanked_tags, span_end, shown_span}
 use denote.Ref.{Bor}
 use Rattle.std.proofs.lemmas.Str.Ascii.{IsAscii-nil, IsAscii-cons}
 use Rattle.std.proofs.lemmas.Str.Pattern.{IsSplitOnceResult, split_parts}
@@ -17,14 +17,13 @@ is_open_after-append o (x ∷ xs) ys = is_open_after-append (is_tag_open_after o
 blanked-append : (o : Bool) (xs ys : List ℕ) → blanked_tags o (xs ++ ys)
     ≡ blanked_tags o xs ++ blanked_tags (is_tag_open_after_all o xs) ys
 blanked-append o [] ys = refl
-blanked-append o (x ∷ xs) ys = ap (λ (l : List ℕ). blanked_tags o (x ∷ []) ++ l)
-    (blanked-append (is_tag_open_after o x) xs ys)
+blanked-append o (x ∷ xs) ys = grind (arith, blanked-append (is_tag_open_after o x) xs ys)
 
 -- ---- a span, without the character that ends it
 
 blanked-tag : (cs : List ℕ) → Lacks 0x3E cs → blanked_tags true cs ≡ replicate (length cs) 0x20
 blanked-tag [] h = refl
-blanked-tag (c ∷ cs) h = rw h.0 (ap (λ (l : List ℕ). 0x20 ∷ l) (blanked-tag cs h.1))
+blanked-tag (c ∷ cs) h = grind (arith, blanked-tag cs h.1)
 
 is_open-tag : (cs : List ℕ) → Lacks 0x3E cs → is_tag_open_after_all true cs ≡ true
 is_open-tag [] h = refl
@@ -38,7 +37,7 @@ is_open-span o cs h = grind (arith, is_open-tag, is_open-free)
 
 encodes-spaces : (n : ℕ) → encode_utf8_all (replicate n 0x20) ≡ replicate n 0x20
 encodes-spaces zero = refl
-encodes-spaces (suc n) = ap₂ (λ (xs ys : List ℕ). xs ++ ys) (encode_ascii 0x20 (omega arith)) (encodes-spaces n)
+encodes-spaces (suc n) = grind (arith, encode_ascii, encodes-spaces n)
 
 -- how a span in a tag, or outside tags, is written
 pub written_tag : (text : List ℕ) → replicate (length (chars text)) 0x20
@@ -54,12 +53,7 @@ pub blank-line : (charset : Charset) (line spaces : List ℕ) → IsAscii line �
     → (spaces ≡ encode_utf8_all (blanked_tags true (chars (text_of charset line))))
     × (is_tag_open_after_all true (chars (text_of charset line)) ≡ true)
 blank-line charset line spaces ascii lacks e =
-    let is : chars (text_of charset line) ≡ line = ap chars (text_of-ascii charset line ascii)
-    ∙ chars-IsAscii line ascii in
-    rw is (
-      e ∙ sym (ap encode_utf8_all (blanked-tag line lacks) ∙ encodes-spaces (length line)),
-      is_open-tag line lacks,
-    )
+    grind (arith, text_of-ascii, chars-IsAscii, encode_utf8_all, blanked-tag, encodes-spaces, is_open-tag)
 
 length-span : (o : Bool) (text : List ℕ) → IsUtf8 text
     → length (encode_utf8_all (shown_span o (chars text))) ≤ length text
@@ -69,7 +63,7 @@ length-span o text h = grind (arith, written_tag, length-replicate, length-le-en
 
 pub spaces-ascii : (n : ℕ) → IsAscii (replicate n 0x20)
 spaces-ascii zero = IsAscii-nil
-spaces-ascii (suc n) = IsAscii-cons 0x20 (replicate n 0x20) (omega arith) (spaces-ascii n)
+spaces-ascii (suc n) = grind (arith, IsAscii-cons, spaces-ascii n)
 
 -- some of the spaces that are left are added
 pub spaces-more : (into new some : List ℕ) (left n rest : ℕ) → some ≡ replicate n 0x20 → n + rest ≡ left → new
@@ -107,8 +101,7 @@ cut_text c before after ascii utf8 =
     let n : ℕ = length before in
     let is : get_or bs n 0 ≡ c = get_or_at before c after 0 n refl in
     let lt : n < length bs = omega (arith, length-append before (c ∷ after)) in
-    let front : IsUtf8 before = subst (λ (l : List ℕ). IsUtf8 l) (take_at before (c ∷ after) n refl)
-    (IsUtf8-take bs n utf8 (IsCharBoundary-before_ascii bs n lt (omega (arith, is)))) in
+    let front : IsUtf8 before = grind (arith, take_at, IsUtf8-take, IsCharBoundary-before_ascii) in
     let rest : drop (n + 1) bs ≡ after = ap (drop (n + 1)) (sym (append_assoc before (c ∷ []) after))
     ∙ drop_at (before ++ c ∷ []) after (n + 1) (length_push before c) in
     let small : IsAscii (c ∷ []) = IsAscii-cons c [] ascii IsAscii-nil in
@@ -118,7 +111,7 @@ cut_text c before after ascii utf8 =
       utf8_before = front;
       utf8_after = subst (λ (l : List ℕ). IsUtf8 l) rest
           (IsUtf8-drop bs (n + 1) utf8 (IsCharBoundary-after_ascii bs n utf8 lt (omega (arith, is))));
-      characters = chars-append before (c ∷ after) front ∙ ap (λ (l : List ℕ). chars before ++ l) later;
+      characters = grind (arith, chars-append);
     }
 
 -- ---- the loop
@@ -139,7 +132,7 @@ pub record TagsBlanked (text : List ℕ) (start : Bool) (old into : List ℕ) (o
 
 pub tags_read-start : (text : List ℕ) (start : Bool) (old : List ℕ) → IsUtf8 text
     → TagsRead text start old old start text
-tags_read-start text start old utf8 = record { utf8 = utf8; sofar = refl; after = refl; size = omega arith }
+tags_read-start text start old utf8 = grind arith
 
 pub tags_read-step : (text : List ℕ) (start : Bool) (old into : List ℕ) (o : Bool)
     (rest before after spanned new : List ℕ) → TagsRead text start old into o rest

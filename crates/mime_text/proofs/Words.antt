@@ -67,7 +67,7 @@ pub use Rattle.std.proofs.lemmas.List.{drop-append-le, drop-drop, drop_all, drop
 pub use Rattle.std.proofs.lemmas.List.Elements.{All-append, All-map}
 pub use Rattle.std.proofs.lemmas.Str.{IsCharBoundary-after_ascii, IsCharBoundary-before_ascii, IsCharBoundary-from_ascii, IsUtf8-drop, IsUtf8-from_ascii, IsUtf8-take, chars-IsAscii, chars-append, encode_ascii, encodes-append, encodes-chars, length-le-encodes}
 pub use Rattle.std.specs.Global.{Global}
-pub use Rattle.std.specs.List.{AllByRecursion, concat, cons_option, find, list_any}
+pub use Rattle.std.specs.List.{AllByRecursion, concat, find, list_any}
 pub use Rattle.std.specs.Option.{option_map_or, option_to_list}
 pub use Rattle.std.specs.Prelude.{Err, IfErr, MatchOption, Ok, OnOk, Result, Vec, codes, flat_map, not, option_map, slice_get, unwrap_or, ◌≢◌}
 pub use Rattle.std.specs.Result.{IsErrAnd}

@@ -1,6 +1,6 @@
 -- `linking_ids` returns the ids of all linking fields in order. There is room, because ids are no longer than their
 -- fields.
-use Rattle.mime_text.proofs.Words.{◌≡◌, ◌∙◌, true, refl, sym, is_linking}
+use Rattle.mime_text.proofs.Words.{◌≡◌, ◌∙◌, true, refl, is_linking, arith}
 use Rattle.mime_text.proofs.IdSizes.{ids_step, room_step}
 use Rattle.mime_text.proofs.header.facts.linking_ids.Goals as goal
 
@@ -8,7 +8,7 @@ pub loop-field-preserved-in-Continue-1 : goal.loop-field-preserved-in-Continue-1
 loop-field-preserved-in-Continue-1 c =
     let split = c.in-Some.ensures.steps in
     let added = c.in_ok-push_ids_of.ensures in
-    let links : is_linking c.in-Some.field.name.now ≡ true = sym c.is_linking.ensures ∙ c.if-is_linking.true in (
+    let links : is_linking c.in-Some.field.name.now ≡ true = grind arith in (
       tt,
       tt,
       room_step _ _ _ _ _ _ split added.ids added.size c.loop-field.invariant.2,

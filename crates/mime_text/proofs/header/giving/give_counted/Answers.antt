@@ -11,7 +11,7 @@ pub returns-in_err-give_field : goal.returns-in_err-give_field
 returns-in_err-give_field g c =
     let f : HeaderField = record { name = c.in-Some.field.name.now; body = c.in-Some.field.body.now } in
     let e : texts_of_fields c.loop-field.field-iterator ≡ texts_of_fields (f ∷ []) ++ texts_of_fields c.next.new.self =
-    ap texts_of_fields c.in-Some.ensures.steps ∙ texts-cons f c.next.new.self in
+    grind (arith, texts-cons) in
     let is : c.args.counted ≡ true = search rules in
     rw (is, fault-up c.from_residual.result _ c.from_residual.ensures.1)
     (broke-later g.S.TextSink.takes g.S.TextSink.refuses (texts c.args.fields) (texts c.loop-field.field-iterator) _ _ _
@@ -23,7 +23,7 @@ pub loop-field-preserved : goal.loop-field-preserved
 loop-field-preserved g c =
     let f : HeaderField = record { name = c.in-Some.field.name.now; body = c.in-Some.field.body.now } in
     let e : texts_of_fields c.loop-field.field-iterator ≡ texts_of_fields (f ∷ []) ++ texts_of_fields c.next.new.self =
-    ap texts_of_fields c.in-Some.ensures.steps ∙ texts-cons f c.next.new.self in
+    grind (arith, texts-cons) in
     let size : fields_size c.next.new.self ≤ most_in_header =
     omega (arith, c.loop-field.invariant.2, ap fields_size c.in-Some.ensures.steps) in (
       tt,

@@ -13,7 +13,4 @@ second result o p first into e h is = grind (arith, no_bytes)
 
 pub returns-then-is_empty-clause-name : goal.returns-then-is_empty-clause-name
 returns-then-is_empty-clause-name c =
-    let none : (length c.read_parameter_in.new.into.items == 0) ≡ true = search rules in
-    second c.read_parameter_in-then-is_empty.result _ _ c.read_parameter_in.new.into.items _
-    (rw c.again-again.ensures at c.in_ok-read_parameter_in.ensures.value) none
-    c.read_parameter_in-then-is_empty.ensures.value
+    grind (arith, rules, second)

@@ -1,14 +1,11 @@
 -- `give_lines` gives each whole line in order and stops at the first fault. A line has at most 65,537 bytes.
 use Rattle.mime_text.proofs.Words.{◌++◌, ℕ, List, arith, concat, line_end-positive, line_end-within, line_end-short, pairs_of_bytes}
-use Rattle.mime_text.proofs.Handing.{fault-up, gave-nothing, gave-more, broke-later}
-use Rattle.mime_text.proofs.LineSteps.{rest-start, rest-step, gave-line, broke-line}
+use Rattle.mime_text.proofs.Handing.{fault-up, gave-more, broke-later}
+use Rattle.mime_text.proofs.LineSteps.{rest-step, gave-line, broke-line}
 use Rattle.mime_text.proofs.leaf.held_line.give_lines.Goals as goal
 
-pub loop-len-init : goal.loop-len-init
-loop-len-init g c = grind (arith, rest-start, gave-nothing)
-
 pub split_at-requires : goal.split_at-requires
-split_at-requires g c = line_end-within c.loop-len.rest.now c.in-Some.len c.in-Some.ensures
+split_at-requires g c = grind (arith, line_end-within)
 
 pub give-requires : goal.give-requires
 give-requires g c = omega (
@@ -32,7 +29,7 @@ loop-len-preserved g c =
       free = omega arith;
       few = omega arith;
       fits = omega (arith, before.fits, within, c.split_at.ensures.back_len);
-      rest = rest-step c.args.bytes.now rest later len before.fits before.rest c.split_at.ensures.back within;
+      rest = grind (arith, rest-step);
       gave = gave-more g.S.TextSink.takes g.S.TextSink.refuses
           (λ ls. pairs_of_bytes c.args.texts.now (c.args.bytes.now ++ concat ls))
           (λ ls. pairs_of_bytes c.loop-len.texts (rest ++ concat ls))

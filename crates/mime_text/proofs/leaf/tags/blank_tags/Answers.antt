@@ -1,5 +1,5 @@
 -- `blank_tags` blanks a text span by span, because a tag begins at the next `<` and ends at the next `>`.
-use Rattle.mime_text.proofs.Words.{Some, None, ◌∷◌, sym, ap, length, length-append, arith, rules, IsCut, IsCut-from, Lacks-from, span_end}
+use Rattle.mime_text.proofs.Words.{Some, None, ◌∷◌, sym, arith, rules, IsCut, IsCut-from, Lacks-from, span_end}
 use Rattle.mime_text.proofs.TagReads.{cut_from_split, tags_read-start, tags_read-step, tags_read-end}
 use Rattle.mime_text.proofs.leaf.tags.blank_tags.Goals as goal
 use Rattle.mime_text.proofs.leaf.tags.blank_tags.Goals.{In_ok-push}
@@ -12,15 +12,6 @@ cut c = IsCut-from (span_end c.loop-span.is_open) c.loop-span.rest.now c.in-Some
 
 pub loop-span-init : goal.loop-span-init
 loop-span-init c = (search rules, tags_read-start _ _ _ c.utf8.text)
-
-pub loop-span-smaller : goal.loop-span-smaller
-loop-span-smaller c = let joined = (cut c).joined
-    in omega (
-      arith,
-      ap length joined,
-      length-append c.in-Some.span.now
-          (span_end c.loop-span.is_open ∷ c.in-Some.after.now),
-    )
 
 pub loop-span-preserved : goal.loop-span-preserved
 loop-span-preserved c = (
@@ -35,4 +26,4 @@ returns c =
     (Lacks-from (span_end c.loop-span.is_open) c.loop-span.rest.now
     (sym (cut_from_split c.loop-span.is_open _ c.loop-span.rest.now None c.end_of_span.ensures
     c.in_default.ensures.cases))) c.in_ok-push_span-2.ensures in
-    record { text = blanked.whole; is_open = blanked.after; size = blanked.size }
+    grind arith

@@ -1,5 +1,5 @@
 -- `is_bare_text` looks for fields, because an entity without them has the default type, charset and encoding.
-use Rattle.mime_text.proofs.Words.{◌≡◌, ◌∙◌, List, [], Bool, true, false, not, refl, sym, HeaderField, before_blanks, unfolded_body, piece_of, parameter, shape_of_value, charset_of_value, charset_of, transfer_named, shape_of, charset_in, transfer_in, TextPlain, Text, Utf8, Identity}
+use Rattle.mime_text.proofs.Words.{◌≡◌, ◌∙◌, List, [], Bool, true, false, not, refl, HeaderField, before_blanks, unfolded_body, piece_of, parameter, shape_of_value, charset_of_value, charset_of, transfer_named, shape_of, charset_in, transfer_in, TextPlain, Text, Utf8, Identity, arith}
 use Rattle.mime_text.proofs.parts.content_type.is_bare_text.Goals as goal
 
 shape-bare : (fields : List HeaderField) → fields ≡ [] → shape_of TextPlain fields ≡ Text false
@@ -15,17 +15,16 @@ unfolding before_blanks unfolded_body transfer_named
 transfer-bare fields e = rw e refl
 
 has_none : (r : Bool) → not r ≡ true → r ≡ false
-has_none true h = cc
-has_none false h = refl
+has_none r h = grind arith
 
 pub returns-in-TextPlain-clause-shape : goal.returns-in-TextPlain-clause-shape
 returns-in-TextPlain-clause-shape c t ls h =
-    rw c.in-TextPlain.is (shape-bare _ (sym (c.fields.ensures.fields ls h) ∙ c.has_fields.ensures (has_none _ t)))
+    grind (arith, shape-bare, has_none)
 
 pub returns-in-TextPlain-clause-charset : goal.returns-in-TextPlain-clause-charset
 returns-in-TextPlain-clause-charset c t ls h =
-    charset-bare _ (sym (c.fields.ensures.fields ls h) ∙ c.has_fields.ensures (has_none _ t))
+    grind (arith, charset-bare, has_none)
 
 pub returns-in-TextPlain-clause-transfer : goal.returns-in-TextPlain-clause-transfer
 returns-in-TextPlain-clause-transfer c t ls h =
-    transfer-bare _ (sym (c.fields.ensures.fields ls h) ∙ c.has_fields.ensures (has_none _ t))
+    grind (arith, transfer-bare, has_none)

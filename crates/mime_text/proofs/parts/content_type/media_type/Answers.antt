@@ -1,5 +1,5 @@
 -- `media_type` returns the text before the first semicolon if it has a slash, and the default if not, as defined.
-use Rattle.mime_text.proofs.Words.{◌≡◌, ◌∙◌, ◌==◌, ℕ, Bool, true, false, List, Bor, Option, Some, None, refl, sym, ap, rules, not, if◌then◌else◌, option_map, unwrap_or, without_outer_blanks, split_while, split_while-cut, split_while-free, cut_at, DefaultType}
+use Rattle.mime_text.proofs.Words.{◌≡◌, ◌∙◌, ◌==◌, ℕ, Bool, true, false, List, Bor, Option, Some, None, refl, sym, ap, rules, not, if◌then◌else◌, option_map, unwrap_or, without_outer_blanks, split_while, split_while-cut, split_while-free, cut_at, DefaultType, arith}
 use Rattle.mime_text.specs.Types.{type_text, has_slash, default_type, media_type}
 use Rattle.mime_text.specs.declared.parts.shape.DefaultType.TheVariants.{TextPlain, MessageRfc822}
 use Rattle.mime_text.proofs.parts.content_type.media_type.Goals as goal
@@ -8,7 +8,7 @@ front : (value e : Bor (List ℕ)) (o : Option (Bor (List ℕ) × Bor (List ℕ)
     ≡ cut_at 0x3B value.now
     → (unwrap_or o (value, e)).0.now ≡ (split_while (λ b. not (b == 0x3B)) value.now).0
 front value e None h = sym (split_while-free 0x3B value.now (sym h))
-front value e (Some (a, b)) h = sym (split_while-cut 0x3B value.now a.now b.now (sym h))
+front value e (Some (a, b)) h = grind (arith, split_while-cut)
 
 chosen : (default : DefaultType) (value e : Bor (List ℕ)) (o : Option (Bor (List ℕ) × Bor (List ℕ)))
     (parts : Bor (List ℕ) × Bor (List ℕ)) (text : List ℕ) (b : Bool)

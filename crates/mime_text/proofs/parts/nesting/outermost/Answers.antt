@@ -8,7 +8,7 @@ returns-in-Some-clause-some c =
     let f = c.index-frames-at.result in
     let outer = inside_out (take c.loop-at.at c.args.frames.now) [] in
     let here : slice_get c.args.frames.now c.loop-at.at ≡ Some f =
-    got-at c.args.frames.now c.loop-at.at f (omega arith) c.index-frames-at.is in
+    grind (arith, got-at) in
     let kind : delimiter_of f.boundary c.args.text.now ≡ Some c.in-Some.kind = cc in
     let later = scan {A = Pair} (inside_out (take (suc c.loop-at.at) c.args.frames.now) [])
     (drop (suc c.loop-at.at) c.args.frames.now) c.args.text.now in (
@@ -24,7 +24,7 @@ loop-at-preserved c =
     let f = c.index-frames-at.result in
     let outer = inside_out (take c.loop-at.at c.args.frames.now) [] in
     let here : slice_get c.args.frames.now c.loop-at.at ≡ Some f =
-    got-at c.args.frames.now c.loop-at.at f (omega arith) c.index-frames-at.is in
+    grind (arith, got-at) in
     let kind : delimiter_of f.boundary c.args.text.now ≡ None = cc in
     rw add-one (c.loop-at.invariant ∙ scan-at c.args.text.now c.args.frames.now c.loop-at.at [] f here
     ∙ ap (λ (o : Option Delimiter). or_else (place_after_delimiter {A = Pair} o f outer)

@@ -6,10 +6,7 @@ use Rattle.mime_text.proofs.header.owned.MessageIds.push_ids_of.Goals as goal
 
 pub invariant_of-self : goal.invariant_of-self
 invariant_of-self c =
-    let added = c.push_ids.ensures in
-    sized_after c.self.inside.ids.items c.push_ids.new.ids.items _ (length c.args.body.now)
-    (rw c.self.view_is c.requires.room) c.push_ids.result c.self.invariant
-    (added.ids, added.sizes) added.size added.refused
+    grind (arith, sized_after)
 
 pub returns-clause-sizes : goal.returns-clause-sizes
 returns-clause-sizes c =
@@ -17,6 +14,3 @@ returns-clause-sizes c =
     all_sized_after c.self.inside.ids.items c.push_ids.new.ids.items _ (length c.args.body.now)
     (rw c.self.view_is c.requires.room) c.push_ids.result c.self.invariant
     (added.ids, added.sizes)
-
-pub returns-clause-ids : goal.returns-clause-ids
-returns-clause-ids c = grind arith

@@ -1,5 +1,5 @@
 -- `LeafReader::end` gives nothing if all lines were given as they are, because no bytes are left then.
-use Rattle.mime_text.proofs.Words.{◌≡◌, ◌++◌, ℕ, List, [], refl, lines, still_decoded, pairs_of_bytes, LineTexts}
+use Rattle.mime_text.proofs.Words.{◌≡◌, ◌++◌, ℕ, List, [], refl, lines, still_decoded, pairs_of_bytes, LineTexts, arith}
 use Rattle.mime_text.specs.declared.leaf.decoder.Decoder.{Decoder}
 use Rattle.mime_text.specs.declared.leaf.decoder.Decoder.TheVariants.{Identity}
 use Rattle.mime_text.proofs.leaf.leaf_reader.LeafReader.end.Goals as goal
@@ -11,7 +11,4 @@ none_left texts decoder held e f = rw (e, f) refl
 
 pub returns-then-has_given_all : goal.returns-then-has_given_all
 returns-then-has_given_all g c =
-    let reader = c.args.self.now in
-    let none = none_left reader.texts reader.decoder reader.held
-    (c.has_given_all.ensures.decoder c.if-has_given_all.true) (c.has_given_all.ensures.held c.if-has_given_all.true) in
-    record { pairs = []; taken = refl; rest = λ ms. none }
+    grind (arith, none_left)

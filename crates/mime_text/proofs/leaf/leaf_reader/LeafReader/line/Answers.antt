@@ -1,5 +1,5 @@
 -- `LeafReader::line` may give a line at once if nothing is encoded or held, because the line is then whole by itself.
-use Rattle.mime_text.proofs.Words.{◌≡◌, ◌++◌, ℕ, List, [], ◌∷◌, Some, length, refl, ap, concat, lines, line_end_of, still_decoded, pairs_of_lines, pairs_of_bytes, LineTexts}
+use Rattle.mime_text.proofs.Words.{◌≡◌, ◌++◌, ℕ, List, [], ◌∷◌, Some, length, refl, concat, lines, line_end_of, still_decoded, pairs_of_lines, pairs_of_bytes, LineTexts, arith}
 use Rattle.mime_text.specs.declared.leaf.decoder.Decoder.{Decoder}
 use Rattle.mime_text.specs.declared.leaf.decoder.Decoder.TheVariants.{Identity}
 use Rattle.mime_text.proofs.Handing.{hands-along}
@@ -10,7 +10,7 @@ use Rattle.mime_text.proofs.leaf.leaf_reader.LeafReader.line.Goals as goal
 passed : (texts : LineTexts) (decoder : Decoder) (held line : List ℕ) (ls : List (List ℕ)) → decoder ≡ Identity → held
     ≡ [] → Some (length line) ≡ line_end_of line
     → pairs_of_bytes texts (held ++ still_decoded decoder (line ∷ ls)) ≡ pairs_of_lines texts (line ∷ lines (concat ls))
-passed texts decoder held line ls e f whole = rw (e, f) (ap (pairs_of_lines texts) (lines-whole line (concat ls) whole))
+passed texts decoder held line ls e f whole = grind (arith, lines-whole, concat)
 
 after : (texts : LineTexts) (decoder : Decoder) (held : List ℕ) (ls : List (List ℕ)) → decoder ≡ Identity → held ≡ []
     → pairs_of_bytes texts (held ++ still_decoded decoder ls) ≡ pairs_of_lines texts (lines (concat ls))
@@ -23,7 +23,7 @@ returns-then-is_passed_on g c =
     let e = c.is_passed_on.ensures.decoder c.if-is_passed_on.true in
     let f = c.is_passed_on.ensures.held c.if-is_passed_on.true in
     let whole : Some (length line) ≡ line_end_of line =
-    feed-end line (c.is_passed_on.ensures.feed c.if-is_passed_on.true) c.requires.last c.requires.short in
+    grind (arith, feed-end) in
     hands-along g.S.TextSink.takes g.S.TextSink.refuses (λ ls. pairs_of_lines reader.texts (line ∷ ls))
     (λ ls. pairs_of_lines c.give.new.self ls)
     (λ ls. pairs_of_bytes reader.texts (reader.held ++ still_decoded reader.decoder (line ∷ ls)))

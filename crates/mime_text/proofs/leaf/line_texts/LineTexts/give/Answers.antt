@@ -1,11 +1,10 @@
 -- `LineTexts::give` gives the text of a line, by its kind: plain, or HTML, in which a tag may stay open.
-use Rattle.mime_text.proofs.Words.{◌≡◌, Bool, true, false, refl, Result, Ok, Err, OnOk, rules}
+use Rattle.mime_text.proofs.Words.{◌≡◌, Bool, true, false, refl, Result, OnOk, rules, arith}
 use Rattle.mime_text.proofs.LineSteps.{hands_line}
 use Rattle.mime_text.proofs.leaf.line_texts.LineTexts.give.Goals as goal
 
 same : {T E : Type 0} (result : Result T E) (b : Bool) → OnOk result (b ≡ b)
-same (Ok x) b = refl
-same (Err x) b = tt
+same result b = grind arith
 
 pub returns-then-not-self : goal.returns-then-not-self
 returns-then-not-self g c =

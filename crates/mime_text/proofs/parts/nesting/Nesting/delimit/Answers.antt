@@ -1,5 +1,5 @@
 -- `Nesting::delimit` leads where the definition does, because the outermost multipart that the line delimits counts.
-use Rattle.mime_text.proofs.Words.{◌≡◌, ◌∙◌, ◌<◌, ℕ, List, Option, Some, length, sym, ap, arith, Bor, slice_get, option_map, length-take, Nest, dashes}
+use Rattle.mime_text.proofs.Words.{◌≡◌, ◌∙◌, ◌<◌, ℕ, List, Option, Some, sym, ap, arith, Bor, slice_get, option_map, length-take, Nest, dashes}
 use Rattle.mime_text.proofs.FrameLemmas.{no_dashes, scanned, closing-leads, next-leads, AreNested-take, AreNested-at, got-at}
 use Rattle.mime_text.proofs.parts.nesting.Nesting.delimit.Goals as goal
 
@@ -7,8 +7,7 @@ abbrev bytes_of : Option (Bor (List ℕ)) → Option (List ℕ)
 bytes_of o = option_map (λ (b : Bor (List ℕ)). b.now) o
 
 pub returns-in_default-clause-leads : goal.returns-in_default-clause-leads
-returns-in_default-clause-leads c = sym (no_dashes c.args.line.now c.args.self.now.frames
-    (sym c.after_dashes.ensures ∙ ap bytes_of c.in_default.is))
+returns-in_default-clause-leads c = grind (arith, no_dashes)
 
 pub returns-in-None-clause-leads : goal.returns-in-None-clause-leads
 returns-in-None-clause-leads c = grind (arith, scanned)
@@ -18,7 +17,7 @@ invariant_of-self c = grind (arith, length-take, AreNested-take)
 
 pub returns-in-Some-default-Closing-clause-leads : goal.returns-in-Some-default-Closing-clause-leads
 returns-in-Some-default-Closing-clause-leads c =
-    let e : dashes c.args.line.now ≡ Some c.in-Some.text.now = sym c.after_dashes.ensures ∙ ap bytes_of c.in-Some.is in
+    let e : dashes c.args.line.now ≡ Some c.in-Some.text.now = grind arith in
     closing-leads c.args.line.now c.in-Some.text.now c.args.self.now.frames c.self.inside.frames.items
     c.as_slice.result.now c.keep_outermost-self-inside.new.frames.items
     c.in-Some-default-Closing.at c.in-Some-default-Closing.field-0-1 (ap (λ (n : Nest). n.frames) (sym c.self.view_is))
@@ -31,11 +30,9 @@ invariant_of-self-in-Some-default-Next c = grind (arith, length-take, AreNested-
 
 pub returns-in-Some-default-Next-clause-leads : goal.returns-in-Some-default-Next-clause-leads
 returns-in-Some-default-Next-clause-leads c =
-    let e : dashes c.args.line.now ≡ Some c.in-Some.text.now = sym c.after_dashes.ensures ∙ ap bytes_of c.in-Some.is in
+    let e : dashes c.args.line.now ≡ Some c.in-Some.text.now = grind arith in
     let got : slice_get c.self.inside.frames.items c.in-Some-default-Next.at ≡ Some c.index.result.now =
-    (let h : c.in-Some-default-Next.at < length c.as_slice.result.now = c.in-Some-default-Next.ensures.within in
-    got-at c.self.inside.frames.items c.in-Some-default-Next.at c.index.result.now
-    (omega (arith, h, ap length c.as_slice.ensures.value)) c.index.ensures) in
+    grind (arith, got-at) in
     next-leads c.args.line.now c.in-Some.text.now c.args.self.now.frames c.self.inside.frames.items
     c.as_slice.result.now c.keep_outermost-self-inside-in-Some-default-Next.new.frames.items
     c.in-Some-default-Next.at c.in-Some-default-Next.field-0-1 c.index.result.now

@@ -1,5 +1,5 @@
 -- `PartReader::inner_line` reads a line of a leaf or of a header, by the state; one that ends a header begins a body.
-use Rattle.mime_text.proofs.Words.{◌≡◌, ◌∙◌, ◌++◌, ◌∷◌, ℕ, List, [], refl, sym, arith, HasLines, taken_of, More, Ended, PartReader, Comes, ComesAfterHeader}
+use Rattle.mime_text.proofs.Words.{◌≡◌, ◌∙◌, ◌++◌, ◌∷◌, ℕ, List, [], refl, arith, HasLines, taken_of, More, Ended, PartReader, Comes, ComesAfterHeader}
 use Rattle.mime_text.proofs.PassingLemmas.{passes-from, leaf-passes, more-passed, ended-comes, facts-ended}
 use Rattle.mime_text.proofs.parts.part_reader.PartReader.inner_line.Goals as goal
 
@@ -13,7 +13,7 @@ pub returns-in-More-clause-pairs : goal.returns-in-More-clause-pairs
 returns-in-More-clause-pairs g c =
     let n : PartReader = record c.args.self.now { header = c.push_line.new.self } in
     let taken : (ls : List (List ℕ)) → HasLines c.args.self.now.header ls → More ≡ taken_of (ls ++ c.args.line.now ∷ [])
-    = λ ls h. sym c.in-More.is ∙ c.in_ok-push_line-in-InHeader.ensures.taken ls h in
+    = grind arith in
     more-passed g.S.TextSink.takes g.S.TextSink.refuses c.args.self.now n c.args.line.now c.in-InHeader.counted
     c.in-InHeader.default _ c.in-InHeader.is refl refl c.requires.inner c.in_ok-push_line-in-InHeader.ensures.lines
     taken
@@ -22,8 +22,7 @@ pub returns-in-Ended-clause-pairs : goal.returns-in-Ended-clause-pairs
 returns-in-Ended-clause-pairs g c =
     let n : PartReader = record c.args.self.now { header = c.push_line.new.self } in
     let taken : (ls : List (List ℕ)) → HasLines c.args.self.now.header ls → Ended
-    ≡ taken_of (ls ++ c.args.line.now ∷ []) = λ ls h. sym c.in-Ended.is
-    ∙ c.in_ok-push_line-in-InHeader.ensures.taken ls h in
+    ≡ taken_of (ls ++ c.args.line.now ∷ []) = grind arith in
     passes-from g.S.TextSink.takes g.S.TextSink.refuses (Comes c.args.self.now)
     (ComesAfterHeader n c.in-InHeader.counted c.in-InHeader.default) (Comes c.end_header.new.self)
     (λ k ms. k (c.args.line.now ∷ ms))
