@@ -1,15 +1,12 @@
 -- The end of a line whose beginning was searched before: the bytes that were searched have no LF.
-use Rattle.mbox_cutter.proofs.Words.{◌≡◌, ◌+◌, ◌<◌, ◌≤◌, ◌==◌, ℕ, zero, suc, true, false, cond, List, [], ◌∷◌, Some, None, length, take, drop, ap, arith, min, nat_lt, nat_tests, length-take, length-drop, IsFirstByte, is_byte, length_before_feed, line_end_of}
+use Rattle.mbox_cutter.proofs.Words.{◌≡◌, ◌+◌, ◌<◌, ◌≤◌, ◌==◌, ℕ, zero, suc, List, [], ◌∷◌, Some, None, length, take, drop, arith, min, nat_lt, nat_tests, length-take, length-drop, IsFirstByte, is_byte, length_before_feed, line_end_of}
 use Rattle.mbox_cutter.proofs.FirstLines.{length_before_feed-le, length_before_feed-take, length_before_feed-found, length_before_feed-not_found}
 
 before_feed-drop : (n : ℕ) (b : List ℕ) → n ≤ length_before_feed b → length_before_feed b
     ≡ n + length_before_feed (drop n b)
 before_feed-drop zero b h = omega arith
 before_feed-drop (suc n) [] h = absurd (omega arith)
-before_feed-drop (suc n) (x ∷ xs) h = (elim (x == 10) as
-    (λ v. suc n ≤ cond v 0 (suc (length_before_feed xs)) → cond v 0 (suc (length_before_feed xs))
-    ≡ suc n + length_before_feed (drop n xs))
-    [ true ↦ λ k. absurd (omega arith) | false ↦ λ k. omega (arith, before_feed-drop n xs (omega arith)) ]) h
+before_feed-drop (suc n) (x ∷ xs) h = grind (arith, before_feed-drop n xs)
 
 -- the part that was searched has no LF
 front-free : (b : List ℕ) (n s : ℕ) → n ≡ min (length b) 65537 → s ≤ length_before_feed b → s ≤ 65536
@@ -42,10 +39,7 @@ none-before : (b rest : List ℕ) (n s : ℕ) → n ≡ min (length b) 65537 →
 none-before b rest n s e free few is h =
     let front : length_before_feed (take n b) ≡ s + length_before_feed (drop s (take n b)) =
     before_feed-drop s (take n b) (front-free b n s e free few) in
-    let none : length_before_feed rest ≡ length rest = length_before_feed-not_found rest h in
-    let same : length_before_feed rest ≡ length_before_feed (drop s (take n b)) = ap length_before_feed is in
-    let sizes : length rest ≡ length (drop s (take n b)) = ap length is in
-    omega (arith, length_before_feed-take n b, length-drop s (take n b), searched-fits b n s e free few)
+    grind (arith, length_before_feed-not_found, length_before_feed-take, length-drop, searched-fits)
 
 pub after-full : (b rest : List ℕ) (n s : ℕ) → n ≡ min (length b) 65537 → s ≤ length_before_feed b → s ≤ 65536 → rest
     ≡ drop s (take n b)
@@ -53,9 +47,7 @@ pub after-full : (b rest : List ℕ) (n s : ℕ) → n ≡ min (length b) 65537 
 unfolding line_end_of
 after-full b rest n s e free few is h long =
     let r = none-before b rest n s e free few is h in
-    let past : 65536 < length_before_feed b = omega (arith, r) in
-    let lt : nat_lt 65536 (length_before_feed b) ≡ true = grind (arith, nat_tests) in
-    rw lt
+    grind (arith, nat_lt, nat_tests)
 
 pub after-open : (b rest : List ℕ) (n s : ℕ) → n ≡ min (length b) 65537 → s ≤ length_before_feed b → s ≤ 65536 → rest
     ≡ drop s (take n b)
@@ -63,9 +55,4 @@ pub after-open : (b rest : List ℕ) (n s : ℕ) → n ≡ min (length b) 65537 
 unfolding line_end_of
 after-open b rest n s e free few is h short =
     let r = none-before b rest n s e free few is h in
-    let size = length-take n b in
-    let le = length_before_feed-le b in
-    let place : length_before_feed b ≡ length b = omega (arith, r, size, le) in
-    let below : length b ≤ 65536 = omega (arith, size) in
-    rw place (let a : nat_lt 65536 (length b) ≡ false = grind arith in let c : nat_lt (length b) (length b) ≡ false =
-    grind arith in rw (a, c))
+    grind (arith, length-take, length_before_feed-le, nat_lt)

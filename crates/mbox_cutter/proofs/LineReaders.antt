@@ -1,5 +1,5 @@
 -- How the calls of a reader change the bytes to come.
-use Rattle.mbox_cutter.proofs.Words.{still_known, IsSome, ◌≡◌, ℕ, ◌+◌, ◌-◌, ◌<◌, ◌≤◌, Bool, true, false, Result, List, ◌++◌, Option, Some, None, IfSome, IfOk, length, take, drop, append-nil, ap, ◌∙◌, arith, append_assoc, ReadConsumes, IsAtEnd, prepend_known, take-append-add, take-append-le, length-take-le, drop-append-le, Ghosts, line_end_of, first_length, BytesAhead, known_bytes, ReadsAfter, ReadsOn, Extends, TakesFirstLine}
+use Rattle.mbox_cutter.proofs.Words.{still_known, IsSome, ◌≡◌, ℕ, ◌+◌, ◌-◌, ◌<◌, ◌≤◌, Bool, true, false, Result, List, ◌++◌, Option, Some, None, IfSome, IfOk, length, take, drop, append-nil, ap, ◌∙◌, arith, append_assoc, ReadConsumes, IsAtEnd, prepend_known, take-append-add, take-append-le, length-take-le, drop-append-le, Ghosts, line_end_of, first_length, BytesAhead, ReadsAfter, ReadsOn, Extends, TakesFirstLine}
 use Rattle.std.specs.Result.{IsErr, is_err}
 use Rattle.std.proofs.lemmas.List.{length-append}
 use borrow.Rule.Slice.PartMut.{put_mid}
@@ -11,7 +11,7 @@ use Rattle.mbox_cutter.proofs.Sources.{ReadsSource-join}
 take_after : (front into post : List ℕ) (held n : ℕ) → length front ≡ held → n ≤ length into
     → take (held + n) (front ++ (into ++ post)) ≡ front ++ take n into
 take_after front into post held n e h =
-    rw (← e) (take-append-add front (into ++ post) n ∙ ap (λ (s : List ℕ). front ++ s) (take-append-le n into post h))
+    grind (arith, take-append-add, take-append-le)
 
 pub reads_after : (held : ℕ) (old new : Option (List ℕ)) (result : Result ℕ DeviceFault) (before into : List ℕ) →
     held < length before → length into ≡ length before - held → IfOk result (λ n. n ≤ length into)
@@ -39,13 +39,13 @@ pub line_taken : (n : ℕ) (u : List ℕ) (r : Option (List ℕ)) → n ≤ leng
 line_taken n u r h = grind (arith, take-append-le)
 
 pub Extends-join : (a b c : List ℕ) → Extends a b → Extends b c → Extends a c
-Extends-join a b c h k = (h.0 ++ k.0, k.1 ∙ ap (λ (s : List ℕ). s ++ k.0) h.1 ∙ append_assoc a h.0 k.0)
+Extends-join a b c h k = grind (arith, append_assoc)
 
 pub length-Extends : (a b : List ℕ) → Extends a b → length a ≤ length b
 length-Extends a b h = omega (arith, ap length h.1, length-append a h.0)
 
 pub take-Extends : (n : ℕ) (a b : List ℕ) → n ≤ length a → Extends a b → take n b ≡ take n a
-take-Extends n a b fits h = ap (take n) h.1 ∙ take-append-le n a h.0 fits
+take-Extends n a b fits h = grind (arith, take-append-le)
 
 join_known : {B C : Type 0} (a b c : Option (List ℕ)) (mid : Option B) (new : Option C) → (IsSome new → IsSome mid)
     → IfSome (still_known a mid) (λ x. b ≡ Some x) → IfSome (still_known b new) (λ x. c ≡ Some x)
@@ -60,10 +60,8 @@ ReadsOn-failed g r old new h h2 = grind arith
 pub ReadsOn-join : {S : Type 0} (g : Ghosts S) (failed : Bool) (a b c : BytesAhead S) → ReadsOn g false a b
     → ReadsOn g failed b c → ReadsOn g failed a c
 ReadsOn-join g failed a b c h k = record {
-  source = ReadsSource-join g failed a.source b.source c.source h.source k.source;
-  bytes = join_known (known_bytes g.rest a) (known_bytes g.rest b) (known_bytes g.rest c) (g.rest b.source.now)
-      (g.rest c.source.now)
-      k.source.stays.known h.bytes k.bytes;
+  source = grind (arith, ReadsSource-join);
+  bytes = grind (arith, join_known);
   keeps = Extends-join a.unread b.unread c.unread h.keeps k.keeps;
 }
 
@@ -73,7 +71,4 @@ pub takes_line : (before unread : List ℕ) (old new : Option (List ℕ)) (n : �
     → IfSome (still_known (prepend_known before old) new) (λ b. n ≡ first_length b) → n ≤ length unread
     → IfSome (prepend_known (drop n unread) new) (λ after. (bytes : List ℕ) × (prepend_known before old ≡ Some bytes)
     × TakesFirstLine bytes n (take n unread) after)
-takes_line before unread None new n still moved first within = grind arith
-takes_line before unread (Some r) None n still moved first within = tt
-takes_line before unread (Some r) (Some now) n still moved first within =
-    grind (arith, drop-append-le, take-append-le)
+takes_line before unread old new n h h2 h3 h4 = grind (arith, drop-append-le, take-append-le)

@@ -1,5 +1,5 @@
 -- The lines of bytes join to the bytes, and each ends where a line does.
-use Rattle.mbox_cutter.proofs.Words.{◌≡◌, None, Some, ℕ, zero, suc, ◌-◌, ◌<◌, ◌≤◌, ◌==◌, true, false, cond, min, List, [], ◌∷◌, ◌++◌, length, take, drop, refl, ap, ◌∙◌, subst, arith, concat, nat_tests, length-drop, length-take-le, take-append-drop, take_all, line_end_of, length_before_feed, first_length, lines, IsLine, AreCut, AreLines}
+use Rattle.mbox_cutter.proofs.Words.{◌≡◌, None, Some, ℕ, zero, suc, ◌-◌, ◌<◌, ◌≤◌, ◌==◌, List, [], ◌∷◌, ◌++◌, length, take, drop, refl, ap, ◌∙◌, subst, arith, concat, nat_tests, length-drop, length-take-le, take-append-drop, take_all, line_end_of, length_before_feed, first_length, lines, IsLine, AreCut, AreLines}
 use Rattle.mbox_cutter.proofs.FirstLines.{line_end-within, line_end-whole, length_before_feed-le, length_before_feed-take, first_length-le, first_length-positive}
 use Rattle.mbox_cutter.proofs.LineLists.{by_lines, lines-cons, lines-nil}
 
@@ -8,28 +8,18 @@ length_before_feed-drop : (k : ℕ) (b : List ℕ) → k ≤ length_before_feed 
 length_before_feed-drop zero b h = omega arith
 length_before_feed-drop (suc k) [] h = absurd (omega arith)
 length_before_feed-drop (suc k) (x ∷ xs) h =
-    (elim (x == 10) as (λ v. suc k ≤ cond v 0 (suc (length_before_feed xs)) → length_before_feed (drop k xs)
-    ≡ cond v 0 (suc (length_before_feed xs)) - suc k) [
-      | true ↦ λ (le : _). absurd (omega arith)
-      | false ↦ λ (le : _). let rest : length_before_feed (drop k xs) ≡ length_before_feed xs - k =
-          length_before_feed-drop k xs (omega arith) in omega arith
-    ]) h
+    grind (arith, length_before_feed-drop k xs)
 
 -- the first line of bytes is a line
 pub first_line-IsLine : (b : List ℕ) → 0 < length b → IsLine (take (first_length b) b)
 unfolding first_length
 first_line-IsLine b h =
-    let le : first_length b ≤ length b = first_length-le b in
-    let positive : 0 < first_length b = first_length-positive b h in
-    let len : length (take (first_length b) b) ≡ first_length b = length-take-le (first_length b) b le in
-    let before : length_before_feed (take (first_length b) b) ≡ min (first_length b) (length_before_feed b) =
-    length_before_feed-take (first_length b) b in
-    record { some = grind (arith, nat_tests); last = grind (arith, nat_tests); short = grind (arith, nat_tests) }
+    grind (arith, first_length-le, first_length-positive, length-take-le, length_before_feed-take, nat_tests)
 
 open_line : (b : List ℕ) → first_length b ≤ length_before_feed b → first_length b < length b → (first_length b ≡ 65536)
     × (65536 < length_before_feed b)
 unfolding first_length
-open_line b h below = (grind (arith, nat_tests), grind (arith, nat_tests))
+open_line b h below = grind (arith, nat_tests)
 
 -- if the first line has no LF and others follow it, it is full and no LF follows
 first_line-full : (b : List ℕ) → 0 < length (drop (first_length b) b) → length_before_feed (take (first_length b) b)
@@ -37,20 +27,16 @@ first_line-full : (b : List ℕ) → 0 < length (drop (first_length b) b) → le
     (length (take (first_length b) b) ≡ 65536)
     × (0 < length_before_feed (take (first_length (drop (first_length b) b)) (drop (first_length b) b)))
 first_line-full b some no_feed =
-    let le : first_length b ≤ length b = first_length-le b in
-    let len : length (take (first_length b) b) ≡ first_length b = length-take-le (first_length b) b le in
-    let left : length (drop (first_length b) b) ≡ length b - first_length b = length-drop (first_length b) b in
-    let before : length_before_feed (take (first_length b) b) ≡ min (first_length b) (length_before_feed b) =
-    length_before_feed-take (first_length b) b in
-    let le_before : first_length b ≤ length_before_feed b = omega arith in
-    let full : (first_length b ≡ 65536) × (65536 < length_before_feed b) = open_line b le_before (omega arith) in
-    let rest : length_before_feed (drop (first_length b) b) ≡ length_before_feed b - first_length b =
-    length_before_feed-drop (first_length b) b le_before in
-    let positive : 0 < first_length (drop (first_length b) b) = first_length-positive (drop (first_length b) b) some in
-    let next : length_before_feed (take (first_length (drop (first_length b) b)) (drop (first_length b) b))
-    ≡ min (first_length (drop (first_length b) b)) (length_before_feed (drop (first_length b) b)) =
-    length_before_feed-take (first_length (drop (first_length b) b)) (drop (first_length b) b) in
-    (len ∙ full.0, omega (arith, full.0, full.1))
+    grind (
+      arith,
+      first_length-le,
+      length-take-le,
+      length-drop,
+      length_before_feed-take,
+      open_line,
+      length_before_feed-drop,
+      first_length-positive,
+    )
 
 joined_cut : (l rest : List ℕ) → IsLine l
     → (0 < length rest → length_before_feed l ≡ length l → (length l ≡ 65536)
@@ -72,11 +58,7 @@ lines-AreLines b = record {
 pub line_end-IsLine : (b : List ℕ) (n : ℕ) → Some n ≡ line_end_of b → IsLine (take n b)
 unfolding line_end_of
 line_end-IsLine b n e =
-    let le : length_before_feed b ≤ length b = length_before_feed-le b in
-    let within : n ≤ length b = line_end-within b n e in
-    let len : length (take n b) ≡ n = length-take-le n b within in
-    let before : length_before_feed (take n b) ≡ min n (length_before_feed b) = length_before_feed-take n b in
-    record { some = grind (arith, nat_tests); last = grind (arith, nat_tests); short = grind (arith, nat_tests) }
+    grind (arith, length_before_feed-le, line_end-within, length-take-le, length_before_feed-take, nat_tests)
 
 -- if it isn't known, and no byte is to come, the bytes are a line
 pub open_end-IsLine : (b : List ℕ) → None ≡ line_end_of b → 0 < length b → IsLine b

@@ -1,5 +1,5 @@
 -- How the events go on from one line to the next.
-use Rattle.mbox_cutter.proofs.Words.{◌≡◌, ℕ, ◌+◌, ◌-◌, ◌≤◌, Bool, true, false, ◌||◌, ◌⊎◌, inl, inr, List, [], ◌∷◌, length, refl, ap, arith, add_assoc, add-zero, zero-add, is_empty, is_separator, marked_lines, grouped_lines, without_closing, Start, Line, End, events_between, events_inside}
+use Rattle.mbox_cutter.proofs.Words.{◌≡◌, ℕ, ◌+◌, ◌-◌, ◌≤◌, Bool, true, false, ◌||◌, ◌⊎◌, List, [], ◌∷◌, length, arith, add_assoc, add-zero, is_empty, is_separator, without_closing, Start, Line, End, events_between, events_inside}
 use Rattle.std.specs.Str.{bytes_eq}
 use Rattle.std.proofs.lemmas.Slice.Eq.{bytes_eq-Decides}
 use Rattle.mbox_cutter.proofs.FirstLines.{not_true}
@@ -23,12 +23,11 @@ module _ (l : List ℕ) (ls : List (List ℕ)) (k : ℕ) (len : length l ≡ k) 
   -- a start
   pub between-start : (all at : ℕ) → is_separator l ≡ true → is_empty l ≡ false → events_between all at (l ∷ ls)
       ≡ Start at l ∷ events_inside all (at + k) at 0 ls
-  between-start all at s e = rw (← len) (rw (s, e) (simp (add-zero, zero-add, add_assoc, sub_front)))
+  between-start all at s e = grind (arith, add_assoc, sub_front)
 
   pub inside-line : (all at start size : ℕ) → is_empty l ≡ false → events_inside all at start size (l ∷ ls)
       ≡ Line l ∷ events_inside all (at + k) start (size + k) ls
-  inside-line all at start size e = rw (← len)
-      (rw e (rw (without_closing-full l (grouped_lines (marked_lines false ls)).0 e) (simp add_assoc)))
+  inside-line all at start size e = grind (arith, without_closing-full, add_assoc)
 
   -- the archive ends with an empty line
   pub inside-closing_last : (all at start size : ℕ) → is_empty l ≡ true → ls ≡ []
@@ -39,12 +38,12 @@ module _ (l : List ℕ) (ls : List (List ℕ)) (k : ℕ) (len : length l ≡ k) 
     -- an empty line before a start
     pub inside-closing : (all at start size : ℕ) → is_empty l ≡ true → is_separator m ≡ true → is_empty m ≡ false →
         events_inside all at start size (l ∷ ls) ≡ End ((at + k) - start) size ∷ events_between all (at + k) ls
-    inside-closing all at start size e s f = rw (← len, next) (rw (e, s, f) (rw e (simp add-zero)))
+    inside-closing all at start size e s f = grind arith
 
     -- another empty line
     pub inside-empty : (all at start size : ℕ) → is_empty l ≡ true → is_separator m ≡ false →
         events_inside all at start size (l ∷ ls) ≡ Line l ∷ events_inside all (at + k) start (size + k) ls
-    inside-empty all at start size e s = rw (← len, next) (rw (e, s) (simp add_assoc))
+    inside-empty all at start size e s = grind (arith, add_assoc)
 
 pub inside-nil : (all at start size : ℕ) → events_inside all at start size []
     ≡ End (at - start) size ∷ events_between all at []
@@ -55,20 +54,12 @@ either : (a b : Bool) → (a || b) ≡ true → (a ≡ true) ⊎ (b ≡ true)
 either a b h = grind arith
 
 no_separator : (l m : List ℕ) → bytes_eq l m ≡ true → is_separator m ≡ false → is_separator l ≡ true → ⊥
-no_separator l m h none s = let is : l ≡ m = (bytes_eq-Decides l m).0 h in let c : is_separator l ≡ is_separator m =
-    ap is_separator is in cc
+no_separator l m h none s = grind (arith, bytes_eq-Decides)
 
 pub separator-full : (l : List ℕ) → is_separator l ≡ true → is_empty l ≡ false
 unfolding is_separator is_empty
-separator-full l s = not_true (is_empty l)
-    (λ e. elim (either (bytes_eq l (10 ∷ [])) (bytes_eq l (13 ∷ 10 ∷ [])) e) as (λ (_ : _). ⊥) [
-      | inl h ↦ no_separator l (10 ∷ []) h refl s
-      | inr h ↦ no_separator l (13 ∷ 10 ∷ []) h refl s
-    ])
+separator-full l s = grind (arith, not_true, either, bytes_eq, no_separator)
 
 pub empty-short : (l : List ℕ) → is_empty l ≡ true → length l ≤ 2
 unfolding is_empty
-empty-short l e = elim (either (bytes_eq l (10 ∷ [])) (bytes_eq l (13 ∷ 10 ∷ [])) e) as (λ (_ : _). length l ≤ 2) [
-  | inl h ↦ let is : length l ≡ 1 = ap length ((bytes_eq-Decides l (10 ∷ [])).0 h) in omega arith
-  | inr h ↦ let is : length l ≡ 2 = ap length ((bytes_eq-Decides l (13 ∷ 10 ∷ [])).0 h) in omega arith
-]
+empty-short l e = grind (arith, either, bytes_eq, bytes_eq-Decides)

@@ -1,9 +1,9 @@
 -- How the calls in a step change a scan, and each way in which a step can end.
-use Rattle.mbox_cutter.proofs.Words.{still_known, IsSome, MutBor, known_until, ◌≡◌, ℕ, ◌+◌, ◌-◌, ◌<◌, ◌≤◌, Bool, true, false, List, Option, Some, Result, Ok, Err, IfSome, IfOk, length, take, drop, ap, sym, ◌∙◌, subst, arith, IsAtEnd, length-take-le, Ghosts, CutFault, Device, NotAnMbox, ArchiveTooLong, Phase, Between, Inside, Ended, first_length, is_empty, IsLine, is_separator, Line, IsRefusalToCome, TakesEvent, is_device, CutterPlace, Moves, HasLine, known_bytes, ReadsOn, resume, closes_at, coming_events, place_of, event_with_line, IsPlace, IsWithin, ReadsSource, IsScan, IsFresh, FindsLine, Passes, Steps}
+use Rattle.mbox_cutter.proofs.Words.{still_known, IsSome, known_until, ◌≡◌, ℕ, ◌+◌, ◌-◌, ◌<◌, ◌≤◌, Bool, true, false, List, Option, Some, Result, Ok, Err, IfSome, IfOk, length, take, drop, sym, ◌∙◌, subst, arith, IsAtEnd, length-take-le, Ghosts, CutFault, NotAnMbox, ArchiveTooLong, Phase, Between, Inside, Ended, first_length, is_empty, IsLine, is_separator, Line, IsRefusalToCome, TakesEvent, is_device, CutterPlace, Moves, HasLine, known_bytes, ReadsOn, resume, closes_at, coming_events, place_of, event_with_line, IsPlace, IsWithin, ReadsSource, IsScan, IsFresh, FindsLine, Passes, Steps}
 use Rattle.mbox_cutter.specs.declared.event.Event.{Event}
 use Rattle.mbox_cutter.specs.declared.event.Event.TheVariants as event
 use Rattle.mbox_cutter.specs.declared.scan.Scan.{Scan}
-use Rattle.mbox_cutter.proofs.KnownSteps.{each_some, at_same, both, still-on, IsFirst, known-step, known-fault}
+use Rattle.mbox_cutter.proofs.KnownSteps.{at_same, both, still-on, IsFirst, known-step, known-fault}
 use Rattle.mbox_cutter.proofs.Sources.{ReadsSource-none, ReadsSource-join}
 use Rattle.mbox_cutter.proofs.Steps.{step-done, step-start, step-empty, step-refused, step-long, step-end, step-line, step-open, step-closed, step-long_inside, ended-stays}
 use Rattle.mbox_cutter.proofs.LineReaders.{known_taken, line_taken, length-Extends, take-Extends, ReadsOn-join}
@@ -64,12 +64,10 @@ module _ {S : Type 0} (g : Ghosts S) (old mid : Scan S) (n : ℕ) (line : List �
     some = h.some;
     place = same ∙ h.place;
     reads = ReadsOn-join g false old.reader mid.reader far.reader h.reads r;
-    first = still-on (known_bytes g.rest old.reader) (g.rest mid.reader.source.now) (g.rest far.reader.source.now)
-        (IsFirst n line) r.source.stays.known h.first;
+    first = grind (arith, still-on);
     fits = h.fits;
-    within = let more : length mid.reader.unread ≤ length far.reader.unread =
-        length-Extends mid.reader.unread far.reader.unread r.keeps in omega (arith, h.within);
-    is = take-Extends n mid.reader.unread far.reader.unread h.within r.keeps ∙ h.is;
+    within = grind (arith, length-Extends);
+    is = grind (arith, take-Extends);
     is_line = h.is_line;
   }
 
@@ -87,9 +85,7 @@ module _ {S : Type 0} (g : Ghosts S) (old mid : Scan S) (n : ℕ) (line : List �
       IfSome (known_until g.rest mid.reader far.reader) (λ b. is ≡ closes_at n b) → is ≡ wanted →
       IfSome (known_until g.rest old.reader new.reader) (λ b. wanted ≡ closes_at n b)
   closes-known far new is wanted source same still h e =
-      subst (λ (m : MutBor S). IfSome (still_known (known_bytes g.rest old.reader) (g.rest m.now))
-      (λ b. wanted ≡ closes_at n b))
-      (sym source) (closes-far far is wanted same still h e)
+      grind (arith, closes-far)
 
   pub taken : (new : Scan S) (phase : Phase) → Found g old mid n line → Passes n phase mid new
       → Taken g old new n phase line
@@ -134,7 +130,7 @@ module _ {S : Type 0} (g : Ghosts S) (old new : Scan S) (n : ℕ) (line : List �
 
   module _ (start size : ℕ) (inside : old.phase ≡ Inside start size) (was : IsScan g.rest old) where
     begun : start + size < old.offset
-    begun = subst (λ (p : Phase). IsWithin p old.offset) inside was.place.phase
+    begun = grind arith
 
     -- a line of the open message's text
     text-steps : (P : List ℕ → Type 0) → Taken g old new n (Inside start (size + n)) line
@@ -146,8 +142,7 @@ module _ {S : Type 0} (g : Ghosts S) (old new : Scan S) (n : ℕ) (line : List �
 
     pub line-steps : is_empty line ≡ false → Taken g old new n (Inside start (size + n)) line
         → Steps g old (Ok event.Line) new
-    line-steps full t = text-steps (IsFirst n line) t t.first
-        (λ b f. rw f.1 (step-line old.offset old.most n b f.0 t.some start size (sym (ap is_empty f.1) ∙ full)))
+    line-steps full t = grind (arith, text-steps, step-line)
 
     -- an empty line that doesn't end the message
     pub open-steps : is_empty line ≡ true → IfSome (known_until g.rest old.reader new.reader)
@@ -174,7 +169,7 @@ module _ {S : Type 0} (g : Ghosts S) (old mid : Scan S) (n : ℕ) (found_none : 
   none-steps before phase s is within takes moves lends = grind (arith, told-steps)
 
   same_offset : mid.offset ≡ old.offset
-  same_offset = ap (λ (p : CutterPlace). p.offset) found_none.place
+  same_offset = grind arith
 
   pub done-steps : old.phase ≡ Between → Steps g old (Ok (event.Done mid.offset)) (record mid { phase = Ended })
   done-steps between = grind (arith, same_offset, none-steps, step-done)
@@ -208,21 +203,12 @@ module _ {S : Type 0} (g : Ghosts S) (old mid : Scan S) (fault : CutFault) (was 
   unfound-steps before is not_ended long f = grind (arith, fails-steps, known-fault)
 
   pub fault-steps : old.phase ≡ Between → FindsLine g old (Err fault) mid → Steps g old (Err fault) mid
-  fault-steps between f = unfound-steps Between between (λ e. cc) (λ b. step-long old.offset old.most b was.place.most)
-      f
+  fault-steps between f = grind (arith, unfound-steps, step-long)
 
   pub fault_inside-steps : (start size : ℕ) → old.phase ≡ Inside start size → FindsLine g old (Err fault) mid
       → Steps g old (Err fault) mid
   fault_inside-steps start size inside f =
-      unfound-steps (Inside start size) inside (λ e. cc) (λ b. step-long_inside old.offset old.most start size b) f
-
--- the line after an empty one can't be read
-pub unread-steps : {S : Type 0} (g : Ghosts S) (old mid : Scan S) (fault : CutFault) → IsScan g.rest old
-    → (n start size : ℕ) (line : List ℕ) (far : Scan S) →
-    old.phase ≡ Inside start size → Found g old mid n line → place_of far ≡ place_of mid
-    → ReadsOn g (is_device fault) mid.reader far.reader → fault ≡ Device → Steps g old (Err fault) far
-unread-steps g old mid fault was n start size line far inside h same r device =
-    grind (arith, fails-steps, ReadsOn-join, each_some)
+      grind (arith, unfound-steps, step-long_inside)
 
 -- the first line that isn't empty isn't a separator
 pub refused-steps : {S : Type 0} (g : Ghosts S) (old mid : Scan S) (n : ℕ) (line : List ℕ) → IsScan g.rest old
@@ -242,10 +228,6 @@ pub record Skipped {S : Type 0} (g : Ghosts S) (old now : Scan S) : Type 0 where
   pub most : now.most ≡ old.most
   pub still : IfSome (still_known (coming_events g.rest old) (g.rest now.reader.source.now))
       (λ k. coming_events g.rest now ≡ Some k)
-
-pub skipped-none : {S : Type 0} (g : Ghosts S) (old : Scan S) → old.phase ≡ Between → IsScan g.rest old
-    → Skipped g old old
-skipped-none g old between was = grind (arith, ReadsSource-none, itself)
 
 pub skipped-one : {S : Type 0} (g : Ghosts S) (old now new : Scan S) (n : ℕ) (line : List ℕ) → Skipped g old now
     → Taken g now new n Between line →

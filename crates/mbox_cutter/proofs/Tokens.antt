@@ -22,14 +22,14 @@ found-year y a r e = rw e
 pub found : (ts : List (List ℕ)) (token : List ℕ) (rest : List (List ℕ)) (timed : Bool) → ts ≡ token ∷ rest → timed
     ≡ true → is_year token ≡ true →
     true ≡ ((timed && list_any is_year ts) || has_time_then_year ts)
-found ts token rest timed e t y = rw (e, t) (sym (found-year (is_year token) (list_any is_year rest) _ y))
+found ts token rest timed e t y = grind (arith, found-year)
 
 last-or : (b y t : Bool) → ((b && (y || false)) || ((t && false) || false)) ≡ (b && y)
 last-or b y t = grind arith
 
 pub last_token : (ts : List (List ℕ)) (token : List ℕ) (timed : Bool) → ts ≡ token ∷ []
     → ((timed && list_any is_year ts) || has_time_then_year ts) ≡ (timed && is_year token)
-last_token ts token timed e = rw e (last-or timed (is_year token) (is_time token))
+last_token ts token timed e = grind (arith, last-or)
 
 pub tokens-split : (rest token more after : List ℕ) (k : ℕ) → IsFirstByte (is_byte 32) rest (Some k) → token
     ≡ take k rest → more ≡ drop k rest → after ≡ drop 1 more → separator_tokens rest ≡ token ∷ separator_tokens after
@@ -52,4 +52,4 @@ pub turn_timed : (ts : List (List ℕ)) (token : List ℕ) (rest : List (List �
     ((timed && list_any is_year ts) || has_time_then_year ts)
     ≡ ((next && list_any is_year rest) || has_time_then_year rest)
 turn_timed ts token rest timed next e t y n =
-    rw (e, n, t, y) (and-or true false (is_time token) (list_any is_year rest) (has_time_then_year rest) refl)
+    grind (arith, and-or)

@@ -1,6 +1,6 @@
 -- The names of std and of the definitions that proofs use, all from one place.
 pub use Rattle.contract_words.specs.Knowledge.{still_known}
-pub use Rattle.mbox_cutter.specs.Archives.{Message, spans_of, grouped_lines, is_refused, marked_lines, messages_from, size, span_length, total, without_closing}
+pub use Rattle.mbox_cutter.specs.Archives.{Message, spans_of, size, span_length, total, without_closing}
 unfoldable pub use Rattle.mbox_cutter.specs.Archives.{messages}
 pub use Rattle.mbox_cutter.specs.Coming.{IsRefusalToCome, TakesEvent, TakesKnown, is_device}
 pub use Rattle.mbox_cutter.specs.Events.{ArchiveEvent, ComingEvents, Done, End, Line, Start, coming_of, first_full_end, events_of}
@@ -19,7 +19,7 @@ unfoldable pub use Rattle.mbox_cutter.specs.Separators.{has_form, is_separator, 
 pub use Rattle.mbox_cutter.specs.Sources.{ReadsSource, Stays}
 pub use Rattle.mbox_cutter.specs.declared.device.Source.{Ghosts}
 pub use Rattle.mbox_cutter.specs.declared.event.CutFault.{CutFault}
-pub use Rattle.mbox_cutter.specs.declared.event.CutFault.TheVariants.{ArchiveTooLong, Device, NotAnMbox}
+pub use Rattle.mbox_cutter.specs.declared.event.CutFault.TheVariants.{ArchiveTooLong, NotAnMbox}
 pub use Rattle.mbox_cutter.specs.declared.scan.Phase.{Phase}
 pub use Rattle.mbox_cutter.specs.declared.scan.Phase.TheVariants.{Between, Ended, Inside}
 pub use Rattle.memchr.specs.Find.{IsFirstByte, is_byte}

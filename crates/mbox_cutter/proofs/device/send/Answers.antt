@@ -1,5 +1,5 @@
 -- `send` writes all bytes, because each call writes a front of those that are left.
-use Rattle.mbox_cutter.proofs.Words.{◌++◌, take, ◌∙◌}
+use Rattle.mbox_cutter.proofs.Words.{◌++◌, take, ◌∙◌, arith}
 use Rattle.contract_words.proofs.Sending.{appends_join, send_step}
 use Rattle.mbox_cutter.proofs.device.send.Goals as goal
 
@@ -8,7 +8,7 @@ loop-rest-preserved g c =
     let before = c.loop-rest.invariant in
     let n = c.in_ok-n.n in (
       before.0 ++ take n c.loop-rest.rest.now,
-      send_step _ before.0 c.loop-rest.rest.now n before.1,
-      appends_join _ _ _ before.0 (take n c.loop-rest.rest.now) before.2 c.in_ok-n.ensures.bytes,
+      grind (arith, send_step),
+      grind (arith, appends_join),
       c.in_ok-n.ensures.count ∙ before.3,
     )

@@ -4,8 +4,7 @@ use Rattle.mbox_cutter.proofs.LineEnds.{searched-fits, after-found, after-full, 
 use Rattle.mbox_cutter.proofs.line.line_end_after.Goals as goal
 
 pub split_at-requires : goal.split_at-requires
-split_at-requires c = searched-fits c.args.bytes.now c.min.result c.args.searched (omega arith) c.requires.free
-    c.requires.few
+split_at-requires c = grind (arith, searched-fits)
 
 pub returns-in-Some : goal.returns-in-Some
 returns-in-Some c =

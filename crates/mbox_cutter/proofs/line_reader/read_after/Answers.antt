@@ -4,6 +4,4 @@ use Rattle.mbox_cutter.proofs.LineReaders.{reads_after}
 use Rattle.mbox_cutter.proofs.line_reader.read_after.Goals as goal
 
 pub returns-clause-bytes : goal.returns-clause-bytes
-returns-clause-bytes g c = reads_after c.args.held _ _ _ c.args.buffer.now c.read_next.new.into c.requires.room
-    (c.read_next.auto.into ∙ simp (length-take, length-drop) (omega arith)) c.read_next.ensures.bound
-    c.read_next.ensures.bytes
+returns-clause-bytes g c = grind (arith, reads_after, length-take, length-drop)

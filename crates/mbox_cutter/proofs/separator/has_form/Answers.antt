@@ -1,5 +1,5 @@
 -- `has_form` compares a text with a form sign by sign, because a text of another length doesn't have the form.
-use Rattle.mbox_cutter.proofs.Words.{◌≡◌, ◌∙◌, ◌&&◌, ℕ, Bool, nat_eq, List, [], ◌∷◌, length, refl, sym, ap, arith, rules, tests, nat_tests, list_all, zip, has_form, stands_for}
+use Rattle.mbox_cutter.proofs.Words.{◌≡◌, ◌∙◌, ◌&&◌, ℕ, Bool, nat_eq, List, [], ◌∷◌, length, refl, sym, arith, rules, tests, nat_tests, list_all, zip, has_form, stands_for}
 use lib.Pointwise.{pointwise_long}
 use Rattle.std.proofs.lemmas.Bool.{eqb-true}
 use Rattle.std.proofs.lemmas.Iterator.{YieldsList-from_slice, YieldsList-from_zip}
@@ -16,7 +16,7 @@ each_pair : (form text : List ℕ) → length form ≡ length text → list_all 
 each_pair [] [] same = refl
 each_pair [] (b ∷ text) same = absurd (omega arith)
 each_pair (s ∷ form) [] same = absurd (omega arith)
-each_pair (s ∷ form) (b ∷ text) same = ap (λ (t : Bool). stands_for s b && t) (each_pair form text (omega arith))
+each_pair (s ∷ form) (b ∷ text) same = grind (arith, each_pair form text)
 
 other_length : (form text : List ℕ) → (length form ≡ length text → ⊥) → nat_eq (length form) (length text)
     ≡ pointwise stands_for form text
@@ -34,5 +34,4 @@ returns-then-form-text c =
 
 pub returns-else-form-text : goal.returns-else-form-text
 unfolding has_form
-returns-else-form-text c = other_length c.args.form.now c.args.text.now
-    (λ e. grind (arith, nat_tests, c.if-form-text.false))
+returns-else-form-text c = grind (arith, other_length, nat_tests)

@@ -5,6 +5,3 @@ use Rattle.mbox_cutter.proofs.digested.DigestedSource.read_next.Goals as goal
 
 pub returns-clause-whole : goal.returns-clause-whole
 returns-clause-whole c = grind (arith, common_steps)
-
-pub returns-clause-gives : goal.returns-clause-gives
-returns-clause-gives c = grind (arith, common_steps)

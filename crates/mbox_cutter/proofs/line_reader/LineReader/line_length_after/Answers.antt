@@ -1,6 +1,6 @@
 -- `LineReader::line_length_after` returns the length of the next line, because it reads on until nothing to come can
 -- change it.
-use Rattle.mbox_cutter.proofs.Words.{ℕ, List, ◌<◌, length, take, ap, ◌∙◌, subst, sym, arith, IsAtEnd, take_all, BytesAhead, IsLine, line_end_of}
+use Rattle.mbox_cutter.proofs.Words.{ℕ, List, ◌<◌, length, take, ap, ◌∙◌, subst, arith, IsAtEnd, take_all, BytesAhead, IsLine, line_end_of}
 use Rattle.mbox_cutter.proofs.FirstLines.{line_end-positive, line_end-within, line_end-open}
 use Rattle.mbox_cutter.proofs.LinesAreCut.{line_end-IsLine, open_end-IsLine}
 use Rattle.mbox_cutter.proofs.LineReaders.{at_some, at_end, ReadsOn-join, ReadsOn-failed}
@@ -13,8 +13,7 @@ returns-in-Some-clause-length g c = record {
       (line_end-IsLine c.unread_after-rest.result.now c.in-Some.n c.in-Some.ensures);
   first = at_some c.args.skip c.in-Some.n c.more.self.unread _ _ (omega arith)
       (c.in-Some.ensures ∙ ap line_end_of c.unread_after-rest.ensures.rest) c.more.invariant.bytes;
-  end = λ none. let some : 0 < c.in-Some.n =
-      line_end-positive c.unread_after-rest.result.now c.in-Some.n c.in-Some.ensures in absurd (omega arith);
+  end = grind (arith, line_end-positive);
 }
 
 pub returns-in-None-clause-length : goal.returns-in-None-clause-length
@@ -23,10 +22,7 @@ returns-in-None-clause-length g c =
     (c.self.invariant.end c.if-self.true) in
     record {
       within = omega arith;
-      line = λ some. subst (λ (rest : List ℕ). IsLine (take (length c.unread_after-rest.result.now) rest))
-          c.unread_after-rest.ensures.rest
-          (subst IsLine (sym (take_all (length c.unread_after-rest.result.now) c.unread_after-rest.result.now
-          (omega arith))) (open_end-IsLine c.unread_after-rest.result.now c.in-None.ensures some));
+      line = grind (arith, take_all, open_end-IsLine);
       first = rw c.unread_after-rest.ensures.rest
           (at_end c.args.skip c.more.self.unread _ _
           (c.in-None.ensures ∙ ap line_end_of c.unread_after-rest.ensures.rest) over c.more.invariant.bytes);
@@ -38,8 +34,7 @@ fill-requires-clause-room g c = omega (arith, line_end-open c.unread_after-rest.
 
 pub returns-in_err-fill-in-None-2-clause-reads : goal.returns-in_err-fill-in-None-2-clause-reads
 returns-in_err-fill-in-None-2-clause-reads g c =
-    ReadsOn-join _ _ _ _ _ c.more.invariant
-    (ReadsOn-failed _ c.from_residual.result _ _ c.from_residual.ensures.0 c.in_err-fill-in-None-2.ensures.reads)
+    grind (arith, ReadsOn-join, ReadsOn-failed)
 
 pub more-preserved : goal.more-preserved
-more-preserved g c = ReadsOn-join _ _ _ _ _ c.more.invariant c.in_ok-fill-in-None-2.ensures.reads
+more-preserved g c = grind (arith, ReadsOn-join)

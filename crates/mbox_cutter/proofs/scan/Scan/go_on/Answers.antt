@@ -2,7 +2,7 @@
 -- or not.
 use Rattle.mbox_cutter.proofs.Words.{◌≡◌, ◌<◌, true, false, arith, is_empty}
 use Rattle.mbox_cutter.proofs.Machine.{empty-short}
-use Rattle.mbox_cutter.proofs.ScanSteps.{found, found-on, closes-known, taken, end-steps, line-steps, open-steps, closed-steps, fault_inside-steps, unread-steps}
+use Rattle.mbox_cutter.proofs.ScanSteps.{found, found-on, closes-known, taken, end-steps, line-steps, open-steps, closed-steps, fault_inside-steps}
 use Rattle.mbox_cutter.proofs.scan.Scan.go_on.Goals as goal
 
 pub returns-in_err-n : goal.returns-in_err-n
@@ -54,6 +54,3 @@ returns-else-branch g c =
     (found-on g.S.Source old _ c.in_ok-n.n line c.closes.new.self
     (found g.S.Source old _ c.in_ok-n.n line c.in_ok-n.ensures some c.part-line.ensures.unread)
     c.in_ok-closes.ensures.place c.in_ok-closes.ensures.reads) c.pass-else-branch.ensures)
-
-pub returns-in_err-closes : goal.returns-in_err-closes
-returns-in_err-closes g c = grind (arith, unread-steps, found)

@@ -1,11 +1,8 @@
 -- `Scan::start` takes the step between messages that the first line says which isn't empty, because it passes empty
 -- ones.
 use Rattle.mbox_cutter.proofs.Words.{◌≡◌, ◌<◌, true, false, ap, arith, is_empty, is_separator}
-use Rattle.mbox_cutter.proofs.ScanSteps.{found, taken, done-steps, start-steps, refused-steps, fault-steps, skipped-none, skipped-one, skipped-steps}
+use Rattle.mbox_cutter.proofs.ScanSteps.{found, taken, done-steps, start-steps, refused-steps, fault-steps, skipped-one, skipped-steps}
 use Rattle.mbox_cutter.proofs.scan.Scan.start.Goals as goal
-
-pub empties-init : goal.empties-init
-empties-init g c = skipped-none g.S.Source c.args.self.now c.requires.phase c.requires.scan
 
 pub returns-in_err-n : goal.returns-in_err-n
 returns-in_err-n g c = grind (arith, skipped-steps, fault-steps)
@@ -49,6 +46,3 @@ empties-preserved g c =
     (taken g.S.Source now _ c.in_ok-n.n line _ _
     (found g.S.Source now _ c.in_ok-n.n line c.in_ok-n.ensures some c.part-line.ensures.unread)
     c.pass-in-empties.ensures) other empty
-
-pub empties-smaller : goal.empties-smaller
-empties-smaller g c = grind (arith, taken, found)
