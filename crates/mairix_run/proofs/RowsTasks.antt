@@ -1,5 +1,6 @@
--- What has to be unfolded, so that tasks and refused names are found by computation.
+-- What has to be unfolded, so that tasks and lines are found by computation.
 use Rattle.std.specs.Char.{encode_utf8}
+use Rattle.std.specs.Fmt.{digits}
 use Rattle.std.specs.Str.{chars}
 use Rattle.bstr.proofs.Computing.{computing}
 use Rattle.caseless.proofs.Computing.{caseless}
@@ -11,7 +12,7 @@ use Rattle.mail_query.specs.Tokens.{query_tokens}
 use Rattle.mail_words.specs.Words.{is_joiner, is_one_word, is_part_of_word, is_word, is_word_character}
 use Rattle.mairix_options.specs.Blanks.{text_without_blanks}
 use Rattle.mairix_options.specs.CommandLine.{parse, plan}
-use Rattle.mairix_run.specs.WorkedTasks.{IsRefusedAsWorked, IsWorkedTask}
+use Rattle.mairix_run.specs.WorkedTasks.{IsWorkedTask}
 
 -- what a proof unfolds to compute a task
 unfoldable pub asking : Unit {0}
@@ -20,7 +21,7 @@ unfolding IsWorkedTask parse plan clap_on_literals computing text_without_blanks
     is_word is_joiner is_word_character ucd_derived ucd_category chars encode_utf8 caseless
 asking = tt
 
--- what a proof unfolds to see which name is refused
-unfoldable pub looking : Unit {0}
-unfolding IsRefusedAsWorked
-looking = tt
+-- what a proof unfolds to compute a line with a number
+unfoldable pub counting : Unit {0}
+unfolding digits
+counting = tt

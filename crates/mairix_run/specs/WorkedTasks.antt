@@ -10,12 +10,11 @@ use Rattle.mail_query.specs.Kinds.{no_kinds}
 use Rattle.mail_query.specs.Query.{Word}
 use Rattle.mail_query.specs.declared.fault.QueryFaultKind.TheVariants.{BadPrefix}
 use Rattle.mairix_options.specs.CommandLine.{plan}
-use Rattle.mairix_options.specs.declared.command_line.UsageFault.TheVariants.{Parse, TwoFormats}
-use Rattle.mairix_options.specs.declared.rcfile.RcFault.TheVariants.{BadLine}
+use Rattle.mairix_options.specs.declared.command_line.UsageFault.TheVariants.{Parse}
 use Rattle.mairix_tool.specs.Asked.{Wanted}
-use Rattle.named_files.specs.Entries.{Entry, Nothing, File, Folder, Other}
+use Rattle.named_files.specs.Entries.{Entry, Nothing, File}
 use Rattle.run_faults.specs.declared.fault.Fault.{Fault}
-use Rattle.run_faults.specs.declared.fault.Fault.TheVariants.{Query, Rc, Usage}
+use Rattle.run_faults.specs.declared.fault.Fault.TheVariants.{Query, Usage}
 use Rattle.mairix_run.specs.NamesUsed.{names_used}
 use Rattle.mairix_run.specs.Stops.{Ending}
 use Rattle.mairix_run.specs.Stops.Ending.{CannotOpen, Because}
@@ -47,11 +46,8 @@ second = codes "the second archive"
 abbrev pub index : List ℕ
 index = magic ++ codes "the index"
 
-abbrev pub rcfile_only : NamedEntries
-rcfile_only = (codes "rc", File rcfile) ∷ []
-
 abbrev pub rcfile_and_archive : NamedEntries
-rcfile_and_archive = (codes "a.mbox", File first) ∷ rcfile_only
+rcfile_and_archive = (codes "a.mbox", File first) ∷ (codes "rc", File rcfile) ∷ []
 
 abbrev pub without_index : NamedEntries
 without_index = (codes "b.mbox", File second) ∷ rcfile_and_archive
@@ -90,13 +86,13 @@ search_for_hello format = record {
   verify = false;
 }
 
+-- what a search reads
+abbrev pub read_of_search : List (List ℕ)
+read_of_search = codes "rc" ∷ codes "m.idx" ∷ codes "a.mbox" ∷ codes "b.mbox" ∷ []
+
 -- a search, whose answer goes to this file
 abbrev pub search : Option (List ℕ) → Work → Result Task Ending
-search file work = Ok (record {
-  work = work;
-  file = file;
-  read = codes "rc" ∷ codes "m.idx" ∷ codes "a.mbox" ∷ codes "b.mbox" ∷ [];
-})
+search file work = Ok (record { work = work; file = file; read = read_of_search })
 
 -- the work of a search by the index in `m.idx`
 abbrev pub stored_search : Result Wanted Fault → Work
@@ -106,39 +102,6 @@ stored_search wanted = SearchStored wanted index (first ∷ second ∷ [])
 
 abbrev pub refused_words : TaskRow
 refused_words = record { words = codes "-f rc -z"; names = with_index; task = Err (Because (Usage Parse)); used = [] }
-
-abbrev pub two_formats : TaskRow
-two_formats = record {
-  words = codes "-f rc -r -x s:hello";
-  names = with_index;
-  task = Err (Because (Usage TwoFormats));
-  used = [];
-}
-
-abbrev pub no_rcfile : TaskRow
-no_rcfile = record {
-  words = codes "-f other s:hello";
-  names = with_index;
-  task = Err (CannotOpen (codes "other"));
-  used = codes "other" ∷ [];
-}
-
-abbrev pub rcfile_is_folder : TaskRow
-rcfile_is_folder = record {
-  words = codes "-f rc s:hello";
-  names = (codes "rc", Folder) ∷ [];
-  task = Err (CannotOpen (codes "rc"));
-  used = codes "rc" ∷ [];
-}
-
--- its second line has no `=`
-abbrev pub line_without_sign : TaskRow
-line_without_sign = record {
-  words = codes "-f rc s:hello";
-  names = (codes "rc", File (codes "mbox=a.mbox\ndatabase\n")) ∷ [];
-  task = Err (Because (Rc (BadLine 2)));
-  used = codes "rc" ∷ [];
-}
 
 abbrev pub no_archive : TaskRow
 no_archive = record {
@@ -153,12 +116,10 @@ index_run = record {
   words = codes "-f rc";
   names = without_index;
   task = Ok (record {
-    work = Index (
-        record { path = codes "a.mbox"; bytes = first }
-        ∷ record { path = codes "b.mbox"; bytes = second }
-        ∷ []);
+    work = Index (record { path = codes "a.mbox"; bytes = first } ∷ record { path = codes "b.mbox"; bytes = second } ∷
+        []);
     file = Some (codes "m.idx");
-    read = codes "rc" ∷ codes "a.mbox" ∷ codes "b.mbox" ∷ [];
+    read = mail_read;
   });
   used = index_read ++ codes "m.idx.new" ∷ [];
 }
@@ -179,28 +140,12 @@ no_index = record {
   used = index_read;
 }
 
-abbrev pub search_to_output : TaskRow
-search_to_output = record {
-  words = codes "-f rc -r s:hello";
-  names = with_index;
-  task = search None (stored_search (Ok (search_for_hello Raw)));
-  used = index_read;
-}
-
 abbrev pub to_mfolder : TaskRow
 to_mfolder = record {
   words = codes "-f rc s:hello";
   names = with_index;
   task = search (Some (codes "hits")) (stored_search (Ok (search_for_hello AsMbox)));
   used = index_read ++ (codes "hits" ∷ codes "hits.new" ∷ []);
-}
-
-abbrev pub to_name : TaskRow
-to_name = record {
-  words = codes "-f rc -o out s:hello";
-  names = with_index;
-  task = search (Some (codes "out")) (stored_search (Ok (search_for_hello AsMbox)));
-  used = index_read ++ (codes "out" ∷ codes "out.new" ∷ []);
 }
 
 abbrev pub to_output : TaskRow
@@ -222,96 +167,49 @@ query_after_files = record {
 
 -- ---- which names are refused
 
--- a file that is to be made: its work, the names that the run reads, the file's name, what names lead to, which two are
--- apart, which names killed runs left, and which name is refused
+-- a file that is to be made: its work, the names that the run reads, the file's name, what names lead to, which names
+-- killed runs left, and which name is refused
 pub record NameRow : Type 0 where
   pub work : Work
   pub read : List (List ℕ)
   pub name : List ℕ
   pub names : NamedEntries
-  pub apart : List ℕ → List ℕ → Bool
   pub is_leftover : List ℕ → Bool
   pub refused : Option (List ℕ)
 
--- that name is refused, or none is
+-- that name is refused, or none is; without links, two names are apart if they are different
 unfoldable pub IsRefusedAsWorked : NameRow → Type 0
 IsRefusedAsWorked row =
-    refused_name (led_to row.names) row.apart row.is_leftover row.work row.read row.name ≡ row.refused
+    refused_name (led_to row.names) (λ a b. not (bytes_eq a b)) row.is_leftover row.work row.read row.name ≡ row.refused
 
--- Without links, two names are apart if they are different.
-abbrev pub differ : List ℕ → List ℕ → Bool
-differ a b = not (bytes_eq a b)
-
--- the index `m.idx`, where killed runs left nothing
-abbrev pub new_index : NamedEntries → Option (List ℕ) → NameRow
-new_index names refused = record {
+-- the index `m.idx`
+abbrev pub new_index : NamedEntries → (List ℕ → Bool) → Option (List ℕ) → NameRow
+new_index names is_leftover refused = record {
   work = Index [];
-  read = codes "rc" ∷ codes "a.mbox" ∷ codes "b.mbox" ∷ [];
+  read = mail_read;
   name = codes "m.idx";
   names = names;
-  apart = differ;
-  is_leftover = λ n. false;
+  is_leftover = is_leftover;
   refused = refused;
 }
-
--- an answer with this name, where killed runs left nothing
-abbrev pub new_answer : List ℕ → NamedEntries → Option (List ℕ) → NameRow
-new_answer name names refused = record {
-  work = SearchNew (Ok (search_for_hello AsMbox)) (first ∷ second ∷ []);
-  read = codes "rc" ∷ codes "m.idx" ∷ codes "a.mbox" ∷ codes "b.mbox" ∷ [];
-  name = name;
-  names = names;
-  apart = differ;
-  is_leftover = λ n. false;
-  refused = refused;
-}
-
-abbrev pub mail : Entry
-mail = File (codes "\nFrom a@x.org Thu Jan  2 10:00:00 2003\n")
-
--- what a killed run left, or the file of another run
-abbrev pub temporary : NamedEntries
-temporary = (codes "m.idx.new", File (codes "MAIRIX")) ∷ []
-
--- the place of each name, if `m.idx` is a link to `m.idx.new`
-abbrev pub place : List ℕ → List ℕ
-place name = if bytes_eq name (codes "m.idx") then codes "m.idx.new" else name
-
-abbrev pub nothing_there : NameRow
-nothing_there = new_index [] None
 
 abbrev pub old_index : NameRow
-old_index = new_index with_index None
-
-abbrev pub empty_file : NameRow
-empty_file = new_index ((codes "m.idx", File []) ∷ []) None
+old_index = new_index with_index (λ n. false) None
 
 abbrev pub name_of_mail : NameRow
-name_of_mail = new_index ((codes "m.idx", mail) ∷ []) (Some (codes "m.idx"))
-
-abbrev pub front_of_magic : NameRow
-front_of_magic = new_index ((codes "m.idx", File (codes "MAIRIX\r")) ∷ []) (Some (codes "m.idx"))
-
-abbrev pub old_answer : NameRow
-old_answer = new_answer (codes "hits") ((codes "hits", mail) ∷ []) None
-
-abbrev pub file_of_another : NameRow
-file_of_another = new_index temporary (Some (codes "m.idx.new"))
+name_of_mail = new_index ((codes "m.idx", File (codes "\nFrom a@x.org Thu Jan  2 10:00:00 2003\n")) ∷ [])
+    (λ n. false) (Some (codes "m.idx"))
 
 abbrev pub left_by_killed : NameRow
-left_by_killed = record (new_index temporary None) { is_leftover = bytes_eq (codes "m.idx.new") }
+left_by_killed = new_index ((codes "m.idx.new", File (codes "MAIRIX")) ∷ []) (bytes_eq (codes "m.idx.new")) None
 
-abbrev pub link_to_temporary : NameRow
-link_to_temporary = record (new_index [] (Some (codes "m.idx.new"))) { apart = λ a b. differ (place a) (place b) }
-
+-- an answer
 abbrev pub name_of_archive : NameRow
-name_of_archive = new_answer (codes "a.mbox") with_index (Some (codes "a.mbox"))
-
-abbrev pub name_of_device : NameRow
-name_of_device = new_answer (codes "tty") ((codes "tty", Other) ∷ []) (Some (codes "tty"))
-
-abbrev pub temporary_name : NameRow
-temporary_name = new_answer (codes "hits.new") [] (Some (codes "hits.new"))
-
-abbrev pub no_last_part : NameRow
-no_last_part = new_answer (codes "mail/") [] (Some (codes "mail/"))
+name_of_archive = record {
+  work = SearchNew (Ok (search_for_hello AsMbox)) (first ∷ second ∷ []);
+  read = read_of_search;
+  name = codes "a.mbox";
+  names = with_index;
+  is_leftover = λ n. false;
+  refused = Some (codes "a.mbox");
+}

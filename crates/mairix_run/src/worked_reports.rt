@@ -8,6 +8,7 @@ ghost use Rattle.run_faults.specs.declared.fault.Fault.TheVariants.{Archive, Dev
 ghost use Rattle.mairix_run.specs.Reports.{fault_line, path_line};
 
 /// The definitions give what was worked out by hand.
+#[tactic(auto, unfolding(crate::proofs::RowsTasks::counting))]
 pub fn lines_and_statuses_are_as_worked_by_hand()
     ensures unopened { path_line (codes "x") ≡ codes "mairix: cannot open x" ++ 10 ∷ [] }
     ensures no_mbox { fault_line (Archive 1 NotAnMbox)
