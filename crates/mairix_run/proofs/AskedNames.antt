@@ -1,5 +1,5 @@
 -- Names that are made one after another.
-use Rattle.std.proofs.Common.{◌≡◌, refl, ◌∙◌, sym, ap, ℕ, Bool, true, List, [], ◌∷◌, ◌++◌, Some, Ok, arith}
+use Rattle.std.proofs.Common.{◌≡◌, ◌∙◌, sym, ap, ℕ, Bool, true, List, [], ◌∷◌, ◌++◌, Some, Ok, arith}
 use Rattle.std.proofs.lemmas.List.{append_assoc}
 use Rattle.std.proofs.lemmas.List.Elements.{All-append, All-nil, All-push, All-weaker, Contains-append_left, Contains-append_right}
 use Rattle.std.specs.List.{Contains}
@@ -19,7 +19,7 @@ module _ (names : List (List ℕ)) (agreed : Bool) where
   -- no name is made
   pub asks_none : (old : List (List ℕ × Bool)) → AsksFor names agreed old old
   unfolding AsksFor
-  asks_none old = ([], refl, All-nil (IsAskedFor names agreed))
+  asks_none old = grind (arith, All-nil)
 
   -- one is
   pub asks_one : (old new : List (List ℕ × Bool)) (name : List ℕ) → Contains names name
@@ -46,51 +46,34 @@ pub asks_wider : (few many : List (List ℕ)) (before agreed : Bool) (old new : 
     → (agreed ≡ true → before ≡ true) → (agreed ≡ true → (n : List ℕ) → Contains few n → Contains many n)
     → AsksFor few agreed old new → AsksFor many before old new
 unfolding AsksFor
-asks_wider few many before agreed old new earlier wider asks = (
-  asks.0,
-  asks.1,
-  All-weaker (IsAskedFor few agreed) (IsAskedFor many before)
-      (λ m asked is. let h = asked is in (earlier h.0, wider h.0 m.0 h.1)) asks.0 asks.2,
-)
+asks_wider few many before agreed old new earlier wider asks = grind (arith, All-weaker)
 
 pub asks_only : (names : List (List ℕ)) (agreed : Bool) (old new : List (List ℕ × Bool)) → AsksFor names agreed old new
     → AsksOnlyFor names old new
 unfolding AsksFor AsksOnlyFor
-asks_only names agreed old new asks = (
-  asks.0,
-  asks.1,
-  All-weaker (IsAskedFor names agreed) (λ m. m.1 ≡ true → Contains names m.0)
-      (λ m asked is. (asked is).1) asks.0 asks.2,
-)
+asks_only names agreed old new asks = grind (arith, All-weaker)
 
 -- ---- names that a plan gives
 
 module _ (p : Plan) (rc : Rc) where
-  pub archives-given : (n : List ℕ) → Contains rc.paths n → Contains (names_given p rc) n
-  archives-given n among = Contains-append_left rc.paths _ n among
-
   pub database-given : Contains (names_given p rc) rc.database
-  database-given = Contains-append_right rc.paths (rc.database ∷ both_names (file_asked p rc)) rc.database
-      (contains-first rc.database _)
+  database-given = grind (arith, Contains-append_right)
 
   pub file-given : (n : List ℕ) → Contains (both_names (file_asked p rc)) n → Contains (names_given p rc) n
-  file-given n among = Contains-append_right rc.paths (rc.database ∷ both_names (file_asked p rc)) n
-      (contains-more rc.database n _ among)
+  file-given n among = grind (arith, Contains-append_right)
 
   module _ (agreed : Bool) (old mid new : List (List ℕ × Bool)) where
     pub given_archives : AsksFor rc.paths agreed old new → AsksFor (names_given p rc) agreed old new
-    given_archives = asks_wider rc.paths (names_given p rc) agreed agreed old new (λ is. is) (λ is. archives-given)
+    given_archives = asks_wider rc.paths (names_given p rc) agreed agreed old new (λ is. is)
+        (λ is. Contains-append_left rc.paths _)
 
     pub given_database : AsksFor (names_given p rc) agreed old mid → new ≡ (rc.database, agreed) ∷ mid
         → AsksFor (names_given p rc) agreed old new
-    given_database first is = asks_then (names_given p rc) agreed old mid new first
-        (asks_one (names_given p rc) agreed mid new rc.database database-given is)
+    given_database first is = grind (arith, asks_then, asks_one, database-given)
 
     pub given_file : AsksFor (names_given p rc) agreed old mid → AsksFor (both_names (file_asked p rc)) agreed mid new
         → AsksFor (names_given p rc) agreed old new
-    given_file first then = asks_then (names_given p rc) agreed old mid new first
-        (asks_wider (both_names (file_asked p rc)) (names_given p rc) agreed agreed mid new (λ is. is)
-        (λ is. file-given) then)
+    given_file first then = grind (arith, asks_then, asks_wider, file-given)
 
   -- an rcfile that is there gives them
   pub given-planned : (holds : List ℕ → Entry) (text : List ℕ) → bytes_of (holds p.rcfile) ≡ Some text

@@ -1,6 +1,5 @@
 -- The files of some names, all of them or the first that is missing.
 use Rattle.std.proofs.Common.{◌≡◌, ◌∙◌, ℕ, zero, suc, Bool, true, List, [], ◌∷◌, map, Option, None, Some, Result, Ok, Err, is_some, refl, sym, ap, arith, length, slice_get, slice_index_or, take, ◌&&◌, ◌<◌, ◌+◌, ◌⊎◌}
-use Rattle.std.proofs.lemmas.Bool.Decides.{nat_tests}
 use Rattle.std.specs.List.{list_all}
 use Rattle.std.specs.Option.{option_map_or}
 use Rattle.contract_words.specs.Answers.{◌>>=◌}
@@ -118,7 +117,7 @@ pub before-found : {N : Type 0} (text : N → List ℕ) (holds : List ℕ → En
     → (agree ≡ (old && list_all (λ file. is_some file) (files_of text holds (take n names))))
     ⊎ (agree ≡ (old && list_all (λ file. is_some file) (files_of text holds (take (n + 1) names)))) → agree ≡ true
     → list_all (λ file. is_some file) (take n (files_of text holds names)) ≡ true
-before-found text holds names n agree old h all = grind (arith, take-files, nat_tests, fewer)
+before-found text holds names n agree old h all = grind (arith, take-files, fewer)
 
 -- the name with a number
 pub named-at : {N : Type 0} (text : N → List ℕ) (names : List N) (n : ℕ) (name : N) → n < length names
@@ -131,7 +130,7 @@ named-at text (here ∷ names) (suc n) name below is = named-at text names n nam
 pub all-found : {N : Type 0} (text : N → List ℕ) (holds : List ℕ → Entry) (names : List N) (agree old : Bool)
     → agree ≡ (old && list_all (λ file. is_some file) (files_of text holds names)) → agree ≡ true
     → (bytes : List (List ℕ)) × (files_at holds (map text names) ≡ Ok bytes)
-all-found text holds names agree old is all = grind (arith, files-found, nat_tests)
+all-found text holds names agree old is all = grind (arith, files-found)
 
 -- the files of some names, by the names' bytes
 pub files-named : {N : Type 0} (text : N → List ℕ) (holds : List ℕ → Entry) (names : List N)

@@ -1,6 +1,6 @@
 -- The first 80 bytes of a file show that it is too short, has another magic or an unknown version, because these are in
 -- them.
-use Rattle.std.proofs.Common.{◌≡◌, ◌∙◌, ap, sym, subst, refl, ℕ, ◌≤◌, true, false, List, [], ◌++◌, length, take, drop, arith, inl, inr, Option, Some, IsSome, Result, Ok, Err, OnOk, Bool, ◌↔◌}
+use Rattle.std.proofs.Common.{◌≡◌, ◌∙◌, ap, sym, subst, refl, ℕ, ◌≤◌, true, false, List, [], ◌++◌, length, take, drop, arith, inl, inr, Option, IsSome, Result, Ok, Err, OnOk, Bool, ◌↔◌}
 use Rattle.std.proofs.lemmas.List.{drop-take, length-take, take-append-drop, take-take}
 use Rattle.std.proofs.Math.Seq.{drop-append_seam, take-append_seam}
 use Rattle.std.proofs.lemmas.Nat.{from_be_bytes-to_be_bytes_4}
@@ -22,28 +22,16 @@ use Rattle.mairix_run.specs.WholeFiles.{GivesRest}
 use Rattle.named_files.specs.Entries.{Entry, IsFileOf, bytes_of}
 use Rattle.named_files.specs.declared.refusal.Refusal.{Refusal}
 
-some_injective : {x y : List ℕ} → Some x ≡ Some y → x ≡ y
-some_injective e = cc
-
 -- the bytes are long enough, and have the magic and a known version
 record IsMarked (bytes : List ℕ) : Type 0 where
   long : 80 ≤ length bytes
   marked : take 8 bytes ≡ magic
   known : IsVersion (version_told bytes)
 
--- bytes with a later fault are marked
-marked_by : (bytes : List ℕ) (f : IndexFault) → seen_early f ≡ false → IsFirstFaultOfFile bytes f → IsMarked bytes
-marked_by bytes f late h = grind arith
-
--- marked bytes have no early fault
-never_early : (bytes : List ℕ) → IsMarked bytes → (f : IndexFault) → seen_early f ≡ true → IsFirstFaultOfFile bytes f
-    → ⊥
-never_early bytes m f early h = grind arith
-
 -- a later fault comes only without an early one
 pub late_only : (bytes : List ℕ) (f : IndexFault) → seen_early f ≡ false → IsFirstFaultOfFile bytes f
     → ¬ IsRefusedEarly bytes
-late_only bytes f late h = λ e. never_early bytes (marked_by bytes f late h) e.0 e.1 e.2
+late_only bytes f late h = grind arith
 
 -- ---- the first 80 bytes and the whole file
 
@@ -93,7 +81,7 @@ reads_all before now after old new more front empty never rest = λ some.
     let r = rest some in
     let f = front (rw r.1 refl) in
     let is : new ≡ take 80 f.0 = f.2 ∙ ap (λ l. l ++ take 80 f.0) empty in
-    let left : r.0 ≡ drop 80 f.0 = some_injective (sym r.1 ∙ f.3) in
+    let left : r.0 ≡ drop 80 f.0 = cc in
     let whole : more ≡ f.0 = r.2 ∙ (λ i. is i ++ left i) ∙ take-append-drop 80 f.0 in
     (f.0, f.1, inr (λ e. never (subst IsRefusedEarly (sym is) (refused_front f.0 e)), whole))
 
@@ -108,7 +96,7 @@ ends_read before now after old new more (Err why) front empty never rest = tt
 pub reads_file : (reading : Reading) (entry : Entry) (before after : Option (List ℕ)) (bytes : List ℕ)
     → before ≡ bytes_of entry → IsKnownRead reading before after bytes → IsSome after
     → IsFileOf (λ all. IsReadAs reading all bytes) entry
-reads_file reading entry before after bytes is read some = grind (arith, some_injective)
+reads_file reading entry before after bytes is read some = grind arith
 
 -- ---- the file of a table
 
@@ -127,15 +115,11 @@ module _ (t : Table) where
       ap (from_be_bytes w32) four ∙ from_be_bytes-to_be_bytes_4 t.version (small_version t.version w.version)
 
   file_marked : IsWellFormed t → IsMarked (index_file t)
-  file_marked w = record {
-    long = omega (arith, length-index_file t, length-body t);
-    marked = ap (take 8) begins_so.1 ∙ take-append_seam magic (be32 t.version ++ begins_so.0);
-    known = subst IsVersion (sym (same_number w)) w.version;
-  }
+  file_marked w = grind (arith, length-index_file, length-body, begins_so, same_number)
 
 -- it has no early fault
 pub table_not_refused : (bytes : List ℕ) (t : Table) → IsFileOfTable bytes t → ¬ IsRefusedEarly bytes
-table_not_refused bytes t file = grind (arith, never_early, file_marked)
+table_not_refused bytes t file = grind (arith, file_marked)
 
 -- ---- what was read serves for the whole file
 

@@ -1,5 +1,5 @@
 -- What an index run did, by what was sent and how failures of sources were counted.
-use Rattle.std.proofs.Common.{◌≡◌, ◌∙◌, ◌<◌, ◌+◌, ℕ, zero, suc, Bool, true, nat_eq, List, [], ◌∷◌, length, map, Option, Some, Result, Ok, Err, IfErr, OnOk, refl, sym, ap, subst, arith, slice_index}
+use Rattle.std.proofs.Common.{◌≡◌, ◌∙◌, ◌<◌, ◌+◌, ℕ, zero, suc, Bool, true, nat_eq, List, [], ◌∷◌, length, map, Option, Some, Result, Ok, Err, IfErr, OnOk, refl, ap, subst, arith, slice_index}
 use Rattle.std.proofs.lemmas.Bool.Decides.{nat_tests}
 use Rattle.std.proofs.lemmas.List.{length-map}
 use Rattle.std.specs.Bool.{⊤, OnFalse, OnTrue}
@@ -12,7 +12,7 @@ use Rattle.index_run.specs.ArchivesIndexed.{mboxes}
 use Rattle.index_run.specs.IndexRuns.{IsIndexRunFault}
 use Rattle.mail_index.specs.Files.{index_file}
 use Rattle.mail_index.specs.Tables.{IsWellFormed, Table}
-use Rattle.mairix_run.proofs.UnreadArchives.{on-any, with-memory, with_status}
+use Rattle.mairix_run.proofs.UnreadArchives.{with_status}
 use Rattle.mairix_run.specs.Answered.{is_unread, result_with_memory}
 use Rattle.mairix_run.specs.Indexed.{IndexesFiles, IsIndexRunResult}
 use Rattle.mbox_cutter.specs.declared.device.Out.{Ghosts}
@@ -25,7 +25,7 @@ use Rattle.run_faults.specs.declared.fault.Fault.TheVariants.{Archive}
 
 pub same-length : {A B C : Type 0} (f : A → C) (h : B → C) (xs : List A) (ys : List B) → map f xs ≡ map h ys
     → length xs ≡ length ys
-same-length f h xs ys e = sym (length-map xs f) ∙ ap length e ∙ length-map ys h
+same-length f h xs ys e = grind (arith, length-map)
 
 -- there are as many archives as paths
 pub mboxes-length : (paths bytes : List (List ℕ)) → length bytes ≡ length paths
@@ -79,10 +79,10 @@ module _ {O : Type 0} (o : Ghosts O) (paths : List (List ℕ)) (files : List (Op
       → IfErr sent (λ fault. OnFalse (is_failed_out (Some fault)) (out' ≡ out))
       → Counted (is_failed_out (fault_in sent)) (o.failures out) (o.failures out')
       → IndexesFiles o paths files AreKnown ⊤ (with_status sent) out out'
-  with-status sent by_bytes formed front kinds silent counted = grind (arith, on-any)
+  with-status sent by_bytes formed front kinds silent counted = grind arith
 
   pub indexed-memory : (ReadFails : Type 0) (lacks : Bool) (r result : Result ℕ Fault)
       → result ≡ result_with_memory lacks r
       → ((bytes : List (List ℕ)) → files ≡ map Some bytes → OnTrue (is_unread (fault_in result)) ReadFails)
       → IndexesFiles o paths files AreKnown ⊤ r out out' → IndexesFiles o paths files AreKnown ReadFails result out out'
-  indexed-memory ReadFails lacks r result made cause i = grind (arith, with-memory)
+  indexed-memory ReadFails lacks r result made cause i = grind arith

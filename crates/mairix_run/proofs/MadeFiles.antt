@@ -1,12 +1,11 @@
 -- How a name ends, for which name a run is stopped while a file is made, and by which calls the file is made.
-use Rattle.std.proofs.Common.{◌≡◌, ◌∙◌, ◌==◌, ◌||◌, ap, sym, not, ℕ, nat_eq, Bool, true, false, if◌then◌else◌, List, Option, None, Some, Result, Err, IfErr, take, length, ◌⊎◌, arith}
+use Rattle.std.proofs.Common.{◌≡◌, ◌∙◌, ◌==◌, ◌||◌, not, ℕ, nat_eq, Bool, true, false, if◌then◌else◌, List, Option, None, Some, Result, Err, IfErr, take, ◌⊎◌, arith}
 use Rattle.std.proofs.lemmas.Bool.Decides.{nat_tests}
 use Rattle.std.proofs.lemmas.List.{length-take, take-take}
 use Rattle.std.proofs.lemmas.Str.Pattern.{ends_text}
 use Rattle.std.specs.Bool.{MatchBool}
-use Rattle.std.specs.List.{ends_with, starts_with}
+use Rattle.std.specs.List.{ends_with}
 use Rattle.std.specs.Str.Pattern.{FindsTextSuffix, HasSuffixMatch}
-use Rattle.mail_index.specs.Files.{magic}
 use Rattle.named_files.specs.Entries.{Entry, IsFileOf}
 use Rattle.named_files.specs.Refusals.{HasCause, refusal_of_name}
 use Rattle.named_files.specs.declared.name_fault.NameFault.{NameFault}
@@ -79,16 +78,10 @@ pub stopped_at : (path : List ℕ) (C : Type 0) (stopped : Stopped) → IsStoppe
     → IsNotReplaced path C stopped
 stopped_at path C stopped at cause = grind arith
 
-starts_front : (m xs : List ℕ) → starts_with nat_eq (take (length m) xs) m ≡ starts_with nat_eq xs m
-starts_front m xs = grind (arith, take-take, length-take)
-
 -- the first eight bytes show whether an index may take the place of a file
 pub replaceable_front : (all : List ℕ) → is_replaceable (take 8 all) ≡ is_replaceable all
-replaceable_front all =
-    let empty : (length (take 8 all) == 0) ≡ (length all == 0) = grind (arith, length-take, nat_tests) in
-    λ i. empty i || starts_front magic all i
+replaceable_front all = grind (arith, length-take, nat_tests, take-take)
 
 pub foreign_front : (entry : Entry) (front : List ℕ) → IsFileOf (λ all. front ≡ take 8 all) entry
     → is_foreign entry ≡ not (is_replaceable front)
-foreign_front entry front (all, is, same) =
-    ap is_foreign same ∙ ap not (sym (ap is_replaceable is ∙ replaceable_front all))
+foreign_front entry front (all, is, same) = grind (arith, replaceable_front)

@@ -1,29 +1,27 @@
 -- What becomes of a folder while a run makes a file: it isn't made, or it is made, filled and settled.
-use Rattle.std.proofs.Common.{◌≡◌, ◌∙◌, ◌⊎◌, inl, inr, ⊎_elim, refl, sym, subst, ℕ, Bool, true, false, ◌&&◌, List, [], All, Option, None, Some, Result, Ok, Err, IfErr, OnErr, OnOk, ◌∷◌, ◌++◌, map, arith}
+use Rattle.std.proofs.Common.{◌≡◌, ◌∙◌, ◌⊎◌, inr, ⊎_elim, refl, sym, subst, ℕ, Bool, true, false, ◌&&◌, List, [], All, Option, None, Some, Result, Ok, Err, IfErr, OnErr, OnOk, ◌∷◌, ◌++◌, map, arith}
 use Rattle.std.proofs.lemmas.List.Elements.{All-head, All-tail}
 use Rattle.named_archives.specs.Names.{files_of}
 use Rattle.named_archives.specs.Progress.{CannotRead}
 use Rattle.std.proofs.lemmas.Bool.Decides.{nat_tests}
 use Rattle.named_files.specs.Crashes.{LeavesOnly}
-use Rattle.named_files.specs.Entries.{Entry, IsFileOf, SameWhere, bytes_of}
+use Rattle.named_files.specs.Entries.{Entry, SameWhere, bytes_of}
 use Rattle.named_files.specs.OtherNames.{LeavesAloneThroughout}
-use Rattle.named_files.specs.TakingNames.{AreAllTaken, Replaces}
+use Rattle.named_files.specs.TakingNames.{Replaces}
 use Rattle.named_files.specs.declared.folder.Folder.{Ghosts as FolderGhosts}
 use Rattle.run_faults.specs.declared.fault.Fault.{Fault}
 use Rattle.run_faults.specs.declared.fault.Fault.TheVariants.{Out}
 use Rattle.mairix_run.proofs.MadeFiles.{apart_of_fit}
-use Rattle.mairix_run.proofs.MakingRuns.{fit-apart, kept-all, leads-text, none-refused, puts-settled, refused-stops, taken-text}
+use Rattle.mairix_run.proofs.MakingRuns.{fit-apart, kept-all, none-refused, puts-settled, refused-stops}
 use Rattle.mairix_run.proofs.NamesUsed.{contains-first, contains-more}
-use Rattle.mairix_run.proofs.RunParts.{follows, keeps-same, leaves-weaker, starts}
+use Rattle.mairix_run.proofs.RunParts.{follows}
 use Rattle.mairix_run.specs.Inside.RunParts.{MakesOrStops, ReplacesFile}
 use Rattle.mairix_run.specs.MadeFiles.{IsNotMade, IsSettled, LeadToOldOrNew, LeadsForGood, MakesFile, MayBeMade, SettlesFile, taken_name, unfit_name}
+use Rattle.mairix_run.specs.OldIndexes.{IsNotReplaced}
 use Rattle.mairix_run.specs.Stops.{Ending, ending_by, ending_of_stopped}
 use Rattle.mairix_run.specs.Tasks.{Work}
-use Rattle.mairix_run.specs.WholeRuns.{IsTextOf, IsWritten, KeepsOld, LeavesInMaking, Puts, is_kept, is_left_alone, temporary_of}
+use Rattle.mairix_run.specs.WholeRuns.{IsWritten, KeepsOld, LeavesInMaking, Puts, is_kept, temporary_of}
 use Rattle.mairix_run.specs.declared.stopped.Stopped.{Stopped}
-
-both-first : (a b : Bool) → (a && b) ≡ true → a ≡ true
-both-first a b h = grind (arith, nat_tests)
 
 -- what is so of a list is so of its end
 pub all-after : (P : List ℕ → Type 0) (front back : List (List ℕ)) → All P (front ++ back) → All P back
@@ -55,7 +53,7 @@ module _ {D F S N L R M A : Type 0} (f : FolderGhosts D F S N L R M A) (old : D)
         → All (λ n. f.holds new n ≡ f.holds old n) read
     fit-same new temporary fit others = kept-all read (λ n. f.apart old n temporary && f.apart old n name)
         (f.holds old) (f.holds new) (fit-apart (f.apart old) read temporary name fit)
-        (λ n both. others n (both-first (f.apart old n temporary) (f.apart old n name) both))
+        (λ n both. others n (grind (arith, nat_tests)))
 
     -- ---- no file is made
 
@@ -94,36 +92,36 @@ module _ {D F S N L R M A : Type 0} (f : FolderGhosts D F S N L R M A) (old : D)
       abbrev Replaces-file : D → Ending → Type 0
       Replaces-file new ended = ReplacesFile f ReadsAgree work read name old new ended
 
-      left-apart : f.apart old name Temporary ≡ true → (n : List ℕ) (c : Entry)
-          → (f.apart old n Temporary ≡ true → f.may_leave old n c)
-          → LeavesInMaking (f.apart old) (f.may_leave old) ReadsAgree work name n c
-      left-apart is_apart n c left = grind (arith, both-first)
+      -- its name is that of a file that stays, or that can't be seen
+      pub kept-replaced : (stopped : Stopped)
+          → IsNotReplaced name ((is_kept work (f.holds old name) ≡ true) ⊎ (f.can_refuse ⊎ f.reads_can_fail)) stopped
+          → Replaces-file old (ending_of_stopped stopped)
+      kept-replaced stopped is = grind (arith, contains-first)
 
       -- the folder is as it was
-      pub same-replaced : (ended : Ending) → MakesOrStops f ReadsAgree work read name old old ended
+      same-replaced : (ended : Ending) → MakesOrStops f ReadsAgree work read name old old ended
           → Replaces-file old ended
-      same-replaced ended stops = grind (arith, keeps-same, starts)
+      same-replaced ended stops = grind arith
 
       none-replaced : (new : D) (stopped : Stopped) → is_kept work (f.holds old name) ≡ false
           → NoneMade new stopped Temporary → Replaces-file new (ending_of_stopped stopped)
       none-replaced new stopped free none =
-          let ended = ending_of_stopped stopped in
-          let stops : (now : D) → MakesOrStops f ReadsAgree work read name old now ended = λ now.
+          let stops : (now : D) → MakesOrStops f ReadsAgree work read name old now (ending_of_stopped stopped) = λ now.
           refused-stops (f.holds old) (f.apart old) (f.is_leftover old) work read name (name ∷ Temporary ∷ [])
-          f.can_refuse f.reads_can_fail (λ e. ReadsAgree → Puts (f.can_refuse ⊎ f.writes_can_fail)
-          (CannotRead f.can_refuse f.reads_can_fail) work (f.holds now name) e) (contains-first name (Temporary ∷ []))
-          (contains-more name Temporary (Temporary ∷ []) (contains-first Temporary [])) free stopped
-          none.none.refusal in
-          ⊎_elim (λ fit. let is_apart = apart_of_fit (f.apart old) read Temporary name fit in record {
+          f.can_refuse f.reads_can_fail (λ e. ReadsAgree → Puts OutFails (CannotRead f.can_refuse f.reads_can_fail) work
+          (f.holds now name) e) (contains-first name (Temporary ∷ []))
+          (contains-more name Temporary (Temporary ∷ []) (contains-first Temporary []))
+          free stopped none.none.refusal in
+          ⊎_elim (λ fit. record {
             run = stops new;
-            keeps = keeps-same ReadsAgree work (f.holds old name) (f.holds new name) ended
-                (none.others.others name is_apart);
+            keeps = grind (arith, apart_of_fit);
             kept = fit-same new Temporary fit none.others.others;
-            alone = λ n both. none.others.others n (both-first (f.apart old n Temporary) (f.apart old n name) both);
-            any_moment = leaves-weaker f.moment f.left_since old new _ _ (left-apart is_apart) none.others.any_moment;
-            calls = inr (inl none.calls);
+            alone = grind arith;
+            any_moment = grind (arith, apart_of_fit);
+            calls = grind arith;
           })
-          (λ same. subst (λ d. Replaces-file d ended) (sym same) (same-replaced ended (stops old))) none.none.untouched
+          (λ same. subst (λ d. Replaces-file d (ending_of_stopped stopped)) (sym same) (same-replaced _ (stops old)))
+          none.none.untouched
 
       -- the same for a temporary name that equals the name's
       pub none-made : (new : D) (stopped : Stopped) (temporary : List ℕ) → Temporary ≡ temporary
@@ -135,102 +133,25 @@ module _ {D F S N L R M A : Type 0} (f : FolderGhosts D F S N L R M A) (old : D)
 
       module _ (mid new : D) (taken : Option (List ℕ)) (written result : Result ℕ Fault) where
         module _ (m : MadeAndSettled mid new taken written result Temporary) where
-          still-both : (n : List ℕ) → (f.apart old n Temporary && f.apart old n name) ≡ true
-              → (f.apart mid n Temporary && f.apart mid n name) ≡ true
-          still-both n both = grind arith
-
-          made-alone : SameWhere (is_left_alone (f.apart old) (Some name)) (f.holds old) (f.holds new)
-          made-alone = grind (arith, still-both, both-first)
-
-          is-apart : f.apart old name Temporary ≡ true
-          is-apart = m.serves.names_apart
-
-          -- what may be left after the file was made, may be left of the run
-          later : (n : List ℕ) (c : Entry) → (f.apart mid n Temporary ≡ true → f.may_leave mid n c)
-              → LeavesInMaking (f.apart old) (f.may_leave old) ReadsAgree work name n c
-          later n c left = grind (arith, left-apart, is-apart)
-
           abbrev Wrote : Result ℕ Fault → Type 0
           Wrote w = IsWritten OutFails (CannotRead f.can_refuse f.reads_can_fail) work (Some []) taken w
 
-          -- all that the file took is the text of the work, if the reads agree
-          abbrev TookText : Type 0
-          TookText = ReadsAgree → (text : List ℕ) × IsTextOf work text × (taken ≡ Some text)
-
-          took-text : (status : ℕ) → (ReadsAgree → Wrote (Ok status)) → TookText
-          took-text status wrote = λ agree. let (text, done, sent) = wrote agree in
-              (text, (status, done), taken-text taken text sent)
-
-          is-text : (known : Option (List ℕ)) (text bytes : List ℕ) → known ≡ Some text → AreAllTaken known bytes
-              → IsTextOf work text → IsTextOf work bytes
-          is-text known text bytes took all is = grind arith
-
-          -- so may the new file
-          file-left : TookText → (c : Entry) → IsFileOf (AreAllTaken taken) c
-              → IsFileOf (λ text. ReadsAgree → IsTextOf work text) c
-          file-left took c (bytes, all, same) =
-              (bytes, (λ agree. let (text, is, known) = took agree in is-text taken text bytes known all is), same)
-
-          whole : TookText → (n : List ℕ) (c : Entry)
-              → Replaces (f.apart mid) (f.may_leave mid) Temporary name taken n c
-              → LeavesInMaking (f.apart old) (f.may_leave old) ReadsAgree work name n c
-          whole took n c left = grind (arith, both-first, still-both, is-apart, file-left)
-
           made-leaves : (w : Result ℕ Fault) → w ≡ written → (ReadsAgree → Wrote w) → Leaves new
-          made-leaves w same is =
-              let first = leaves-weaker f.moment f.left_since old mid _ _ (left-apart is-apart) m.others.any_moment in
-              by-result w same is first where
-                by-result : (w : Result ℕ Fault) → w ≡ written → (ReadsAgree → Wrote w) → Leaves mid → Leaves new
-                by-result (Ok status) same wrote first =
-                    follows f.moment f.left_since old mid new _ _ first m.settling (whole (took-text status wrote))
-                by-result (Err fault) same is first =
-                    let alone : LeavesOthers Temporary mid new =
-                    subst (λ (w : Result ℕ Fault). OnErr w (LeavesOthers Temporary mid new)) (sym same) m.given_up in
-                    follows f.moment f.left_since old mid new _ _ first alone.any_moment later
-
-          -- it led to what it led to before while the file was made
-          mid-old : f.holds mid name ≡ f.holds old name
-          mid-old = m.others.others name is-apart
-
-          mid-apart : f.apart mid name Temporary ≡ true
-          mid-apart = m.others.still_apart name Temporary ∙ is-apart
-
-          -- the file has its name, or not
-          named-or-not : TookText → (f.holds new name ≡ f.holds old name)
-              ⊎ (ReadsAgree → IsFileOf (IsTextOf work) (f.holds new name))
-          named-or-not took = ⊎_elim (λ same. inl (same ∙ mid-old))
-              (λ leads. inr (λ agree. let (text, is, known) = took agree in
-              (text, is, leads-text (f.holds new name) taken text known leads)))
-              (m.names.old_or_new mid-apart)
-
-          done-keeps : (status : ℕ) (r : Result ℕ Fault) → TookText → IsSettled (Ok status) r
-              → KeepsOld ReadsAgree work (f.holds old name) (f.holds new name) (ending_by r)
-          done-keeps status r took settled = grind (arith, named-or-not)
-
-          fault-keeps : (fault : Fault) (r : Result ℕ Fault) → Err fault ≡ written → IsSettled (Err fault) r
-              → KeepsOld ReadsAgree work (f.holds old name) (f.holds new name) (ending_by r)
-          fault-keeps fault r is settled = grind (arith, keeps-same, mid-apart, mid-old)
+          made-leaves (Ok status) same wrote = grind (arith, follows)
+          made-leaves (Err fault) same wrote = grind (arith, follows)
 
           made-keeps : (w r : Result ℕ Fault) → w ≡ written → (ReadsAgree → Wrote w) → IsSettled w r
               → KeepsOld ReadsAgree work (f.holds old name) (f.holds new name) (ending_by r)
-          made-keeps (Ok status) r is wrote settled = done-keeps status r (took-text status wrote) settled
-          made-keeps (Err fault) r is wrote settled = fault-keeps fault r is settled
+          made-keeps (Ok status) r is wrote settled = grind arith
+          made-keeps (Err fault) r is wrote settled = grind arith
 
           settled-replaced : is_kept work (f.holds old name) ≡ false → (ReadsAgree → Wrote written)
               → Replaces-file new (ending_by result)
           settled-replaced free wrote = record {
-            run = inr (inr (
-              none-refused (f.holds old) (f.apart old) (f.is_leftover old) work read name (name ∷ Temporary ∷ [])
-                  f.can_refuse f.reads_can_fail (λ e. ReadsAgree → Puts OutFails
-                  (CannotRead f.can_refuse f.reads_can_fail) work (f.holds new name) e) free m.serves.fit m.serves.plain
-                  m.serves.free,
-              λ agree. puts-settled OutFails (CannotRead f.can_refuse f.reads_can_fail) work taken written result
-                  (f.holds new name) (f.may_leave new name) (wrote agree) m.settled m.refused m.named,
-            ));
+            run = grind (arith, none-refused, puts-settled);
             keeps = made-keeps written result refl wrote m.settled;
-            kept = kept-all read (λ n. f.apart old n Temporary && f.apart old n name) (f.holds old) (f.holds new)
-                (fit-apart (f.apart old) read Temporary name m.serves.fit) made-alone;
-            alone = made-alone;
+            kept = grind (arith, kept-all, fit-apart);
+            alone = grind arith;
             any_moment = made-leaves written refl wrote;
             calls = inr (inr (mid, m.made, written, result, refl, m.calls));
           }

@@ -1,65 +1,35 @@
 -- A file that a run makes: which name is refused, and what the file has in the end.
-use Rattle.std.proofs.Common.{◌≡◌, ◌∙◌, ◌⊎◌, refl, ℕ, Bool, true, false, ◌&&◌, not, List, [], ◌∷◌, All, Option, None, Some, Result, Ok, Err, IfErr, OnOk, if◌then◌else◌, arith, rules}
+use Rattle.std.proofs.Common.{◌≡◌, ◌∙◌, ◌⊎◌, ℕ, Bool, true, false, ◌&&◌, List, [], ◌∷◌, All, Option, None, Some, Result, IfErr, OnOk, if◌then◌else◌, arith, rules}
 use Rattle.std.proofs.lemmas.Bool.Decides.{nat_tests}
 use Rattle.std.proofs.lemmas.List.Elements.{All-cons, All-nil}
 use Rattle.std.specs.List.{Contains}
-use Rattle.std.specs.Option.{option_or}
-use Rattle.std.specs.Io.KnownBytes.{Appends}
-use Rattle.named_files.specs.Entries.{Entry, File, Leads, SameWhere}
+use Rattle.named_files.specs.Entries.{Entry, SameWhere}
 use Rattle.run_faults.specs.declared.fault.Fault.{Fault}
 use Rattle.run_faults.specs.declared.fault.Fault.TheVariants.{Out}
-use Rattle.mairix_run.specs.OldIndexes.{IsNotReplaced}
-use Rattle.mairix_run.specs.MadeFiles.{IsRefusal, IsSettled, LeadsForGood, is_final_name, is_open_to, is_special, taken_name, unfit_name}
+use Rattle.mairix_run.specs.MadeFiles.{IsRefusal, IsSettled, LeadsForGood, is_open_to, is_special, taken_name, unfit_name}
 use Rattle.mairix_run.specs.ReadFiles.{are_all_apart}
 use Rattle.mairix_run.specs.Stops.{Ending, ending_by, ending_of_stopped}
-use Rattle.mairix_run.specs.Tasks.{Work, IsDone, search_work}
+use Rattle.mairix_run.specs.Tasks.{Work, search_work}
 use Rattle.mairix_tool.specs.Asked.{Wanted}
-use Rattle.mairix_run.specs.WholeRuns.{IsFailure, IsTrouble, IsWritten, MakesFor, Puts, is_kept, temporary_of, refused_name}
+use Rattle.mairix_run.specs.WholeRuns.{IsTrouble, IsWritten, MakesFor, Puts, is_kept, temporary_of, refused_name}
 use Rattle.mairix_run.specs.declared.stopped.Stopped.{Stopped}
 use Rattle.mairix_run.specs.declared.stopped.Stopped.TheVariants as by
 
 -- ---- names
-
--- both names of a file leave a name that is read as it is
-both-apart : (a b : Bool) → a ≡ true → b ≡ true → (a && b) ≡ true
-both-apart a b x y = grind (arith, nat_tests)
 
 apart-from-both : (apart : List ℕ → List ℕ → Bool) (read : List (List ℕ)) (temporary name : List ℕ)
     → are_all_apart apart read temporary ≡ true → are_all_apart apart read name ≡ true
     → All (λ n. (apart n temporary && apart n name) ≡ true) read
 apart-from-both apart [] temporary name one other = All-nil (λ n. (apart n temporary && apart n name) ≡ true)
 apart-from-both apart (n ∷ read) temporary name one other =
-    All-cons (λ n. (apart n temporary && apart n name) ≡ true) n read
-    (both-apart (apart n temporary) (apart n name)
-    (first-of (apart n temporary) (are_all_apart apart read temporary) one)
-    (first-of (apart n name) (are_all_apart apart read name) other))
-    (apart-from-both apart read temporary name (rest-of (apart n temporary) (are_all_apart apart read temporary) one)
-    (rest-of (apart n name) (are_all_apart apart read name) other)) where
-      first-of : (a b : Bool) → (a && b) ≡ true → a ≡ true
-      first-of a b h = grind (arith, nat_tests)
-
-      rest-of : (a b : Bool) → (a && b) ≡ true → b ≡ true
-      rest-of a b h = grind (arith, nat_tests)
+    All-cons (λ n. (apart n temporary && apart n name) ≡ true) n read (grind (arith, nat_tests))
+    (apart-from-both apart read temporary name (grind (arith, nat_tests)) (grind (arith, nat_tests)))
 
 -- names that fit leave each name that is read as it is
 pub fit-apart : (apart : List ℕ → List ℕ → Bool) (read : List (List ℕ)) (temporary name : List ℕ)
     → unfit_name apart read temporary name ≡ None → All (λ n. (apart n temporary && apart n name) ≡ true) read
-fit-apart apart read temporary name fit = apart-from-both apart read temporary name
-    (temporary-of (not (is_final_name name && are_all_apart apart read name)) (are_all_apart apart read temporary)
-    (apart name temporary) fit)
-    (name-of (is_final_name name) (are_all_apart apart read name)
-    (are_all_apart apart read temporary && apart name temporary) fit) where
-      temporary-of : (a b c : Bool) → (if a then Some name else (if b && c then None else Some temporary)) ≡ None → b
-          ≡ true
-      temporary-of true b c h = absurd cc
-      temporary-of false true c h = refl
-      temporary-of false false c h = absurd cc
-
-      name-of : (a b c : Bool) → (if not (a && b) then Some name else (if c then None else Some temporary)) ≡ None
-          → b ≡ true
-      name-of true true c h = refl
-      name-of true false c h = absurd cc
-      name-of false b c h = absurd cc
+fit-apart apart read temporary name fit =
+    apart-from-both apart read temporary name (grind (arith, nat_tests)) (grind (arith, nat_tests))
 
 -- names that are apart from both are as they were
 pub kept-all : (read : List (List ℕ)) (passes : List ℕ → Bool) (old new : List ℕ → Entry)
@@ -81,52 +51,19 @@ module _ (holds : List ℕ → Entry) (apart : List ℕ → List ℕ → Bool) (
   Stops ended = IsTrouble names CanRefuse ReadsCanFail ended
       ⊎ MakesFor (refused_name holds apart is_leftover work read name) IsMade ended
 
-  not-kept : (kept : Bool) (other : Option (List ℕ)) → kept ≡ false → (if kept then Some name else other) ≡ other
-  not-kept kept other is = grind arith
-
   -- the file can't be made, and its name isn't that of a file that stays
   pub refused-stops : Contains names name → Contains names (temporary_of name) → is_kept work (holds name) ≡ false
       → (stopped : Stopped) → IsRefusal Unfit Taken (temporary_of name) name CanRefuse stopped
       → Stops (ending_of_stopped stopped)
-  refused-stops here there new stopped h = grind (arith, not-kept)
-
-  kept-name : (kept : Bool) (other : Option (List ℕ)) → kept ≡ true → (if kept then Some name else other) ≡ Some name
-  kept-name kept other is = grind arith
-
-  -- the name is that of a file that stays, or that can't be seen
-  pub kept-found : Contains names name → (stopped : Stopped)
-      → IsNotReplaced name ((is_kept work (holds name) ≡ true) ⊎ (CanRefuse ⊎ ReadsCanFail)) stopped
-      → Stops (ending_of_stopped stopped)
-  kept-found among stopped is = grind (arith, kept-name)
-
-  free-name : (kept special free : Bool) → kept ≡ false → Unfit ≡ None → special ≡ false → free ≡ true
-      → (if kept then Some name else option_or Unfit
-      (if special then Some name else (if free then None else Some (temporary_of name)))) ≡ None
-  free-name kept special free new fit plain is_free = grind arith
+  refused-stops here there new stopped h = grind arith
 
   -- no name is refused
   pub none-refused : is_kept work (holds name) ≡ false → Unfit ≡ None → is_special (holds name) ≡ false
       → is_open_to holds is_leftover (temporary_of name) ≡ true
       → refused_name holds apart is_leftover work read name ≡ None
-  none-refused new fit plain is_free = grind (arith, free-name)
+  none-refused new fit plain is_free = grind arith
 
 -- ---- what the file has
-
--- all that a new file took is the text
-pub taken-text : (taken : Option (List ℕ)) (text : List ℕ) → Appends (Some []) taken text → taken ≡ Some text
-taken-text taken text sent = grind arith
-
-pub leads-text : (now : Entry) (taken : Option (List ℕ)) (text : List ℕ) → taken ≡ Some text → Leads now taken
-    → now ≡ File text
-leads-text now taken text is leads = grind arith
-
-done-with : (work : Work) (text : List ℕ) (status other : ℕ) → IsSettled (Ok status) (Ok other)
-    → IsDone work status text → IsDone work other text
-done-with work text status other is done = grind arith
-
-fails-with : (OutFails ReadFails : Type 0) (status : ℕ) (fault : Fault) → IsSettled (Ok status) (Err fault)
-    → (fault ≡ Out → OutFails) → IsFailure OutFails ReadFails fault
-fails-with OutFails ReadFails status fault is cause = grind arith
 
 -- the work was written, and then the file took its name or was removed
 pub puts-settled : (OutFails ReadFails : Type 0) (work : Work) (taken : Option (List ℕ))
@@ -134,8 +71,7 @@ pub puts-settled : (OutFails ReadFails : Type 0) (work : Work) (taken : Option (
     → IsWritten OutFails ReadFails work (Some []) taken written → IsSettled written result
     → OnOk written (IfErr result (λ fault. fault ≡ Out → OutFails)) → OnOk result (LeadsForGood now may_leave taken)
     → Puts OutFails ReadFails work now (ending_by result)
-puts-settled OutFails ReadFails work taken written result now may h settled cause leads =
-    grind (arith, done-with, leads-text, taken-text, fails-with)
+puts-settled OutFails ReadFails work taken written result now may h settled cause leads = grind arith
 
 -- a search replaces any file
 pub search-not-kept : (wanted : Result Wanted Fault) (index : Option (List ℕ)) (bytes : List (List ℕ)) (entry : Entry)

@@ -1,5 +1,5 @@
 -- Sources of names whose reports agree are still known after they are indexed. One that has failed has a cause.
-use Rattle.std.proofs.Common.{◌≡◌, ◌∙◌, ◌||◌, ◌<◌, ℕ, zero, suc, Bool, false, List, [], ◌∷◌, map, All, Option, None, Some, IsSome, refl, sym, subst, arith, slice_index}
+use Rattle.std.proofs.Common.{◌≡◌, ◌∙◌, ◌<◌, ℕ, zero, suc, Bool, false, List, [], ◌∷◌, map, All, Option, None, Some, IsSome, refl, sym, subst, arith, slice_index}
 use Rattle.std.proofs.lemmas.List.Elements.{All-cons, All-head, All-nil, All-tail}
 use Rattle.std.specs.List.{AllZip, list_any}
 use Rattle.contract_words.specs.Devices.{Counted}
@@ -32,56 +32,44 @@ module _ {S F : Type 0} (rest : F → Option (List ℕ)) (all : S → Option (Li
   abbrev IsReported : S → Type 0
   IsReported s = failures s ≡ 0 → IsSome (file s) → IsSome (left s)
 
-  -- sources that were new, of these files, are known now if none has failed
-  pub known-now : (g : Ghosts S)
-      → ((old new : S) → Stays g old new → (bytes : List ℕ) → all old ≡ Some bytes → all new ≡ Some bytes)
-      → (olds news : List S) (files : List (List ℕ)) → AllZip (Stays g) olds news → All IsNew olds
-      → map left olds ≡ map Some files → ((n : ℕ) → slice_index (map failures news) n ≡ 0) → All IsReported news
-      → All IsSome (map left news)
-  known-now g same [] [] files stay fresh are zeros told = All-nil IsSome
-  known-now g same [] (new ∷ news) files stay fresh are zeros told = absurd stay
-  known-now g same (old ∷ olds) [] files stay fresh are zeros told = absurd stay
-  known-now g same (old ∷ olds) (new ∷ news) [] stay fresh are zeros told = absurd cc
-  known-now g same (old ∷ olds) (new ∷ news) (bytes ∷ files) stay fresh are zeros told =
-      let here : left old ≡ Some bytes = grind arith in
-      let others : map left olds ≡ map Some files = grind arith in
-      let unopened = not-opened rest (all old) (file old) (progress old) (All-head IsNew old olds fresh).1 in
-      let now = same old new stay.0 bytes (sym unopened ∙ here) in
-      All-cons IsSome (left new) (map left news)
-      (left-some rest (all new) (file new) (progress new)
-      (All-head IsReported new news told (zeros 0)) (subst IsSome (sym now) refl))
-      (known-now g same olds news files stay.1 (All-tail IsNew old olds fresh) others (λ n. zeros (suc n))
-      (All-tail IsReported new news told))
+  module _ (g : Ghosts S)
+      (same : (old new : S) → Stays g old new → (bytes : List ℕ) → all old ≡ Some bytes → all new ≡ Some bytes) where
+    -- of a source that was new all is known
+    whole : (old new : S) (bytes : List ℕ) → Stays g old new → IsNew old → left old ≡ Some bytes → IsSome (all new)
+    whole old new bytes stay fresh here = subst IsSome
+        (sym (same old new stay bytes (sym (not-opened rest (all old) (file old) (progress old) fresh.1) ∙ here))) refl
 
-  -- none is so, neither the first one nor any other
-  first-not : (a b : Bool) → (a || b) ≡ false → a ≡ false
-  first-not a b none = grind arith
+    -- sources that were new, of these files, are known now if none has failed
+    pub known-now : (olds news : List S) (files : List (List ℕ)) → AllZip (Stays g) olds news → All IsNew olds
+        → map left olds ≡ map Some files → ((n : ℕ) → slice_index (map failures news) n ≡ 0) → All IsReported news
+        → All IsSome (map left news)
+    known-now [] [] files stay fresh are zeros told = All-nil IsSome
+    known-now [] (new ∷ news) files stay fresh are zeros told = absurd stay
+    known-now (old ∷ olds) [] files stay fresh are zeros told = absurd stay
+    known-now (old ∷ olds) (new ∷ news) [] stay fresh are zeros told = absurd cc
+    known-now (old ∷ olds) (new ∷ news) (bytes ∷ files) stay fresh are zeros told =
+        All-cons IsSome (left new) (map left news) (left-some rest (all new) (file new) (progress new)
+        (All-head IsReported new news told (zeros 0))
+        (whole old new bytes stay.0 (All-head IsNew old olds fresh) (grind arith)))
+        (known-now olds news files stay.1 (All-tail IsNew old olds fresh) (grind arith) (λ n. zeros (suc n))
+        (All-tail IsReported new news told))
 
-  others-not : (a b : Bool) → (a || b) ≡ false → b ≡ false
-  others-not a b none = grind arith
-
-  -- If each source that has failed has a cause, unless its file isn't there or memory ran out: so has the source with
-  -- number n, which was new, and whose file is there.
-  pub has-cause : (g : Ghosts S)
-      → ((old new : S) → Stays g old new → (bytes : List ℕ) → all old ≡ Some bytes → all new ≡ Some bytes)
-      → (lacks : S → Bool) (Cause : Type 0)
-      → ((s : S) → 0 < failures s → lacks s ≡ false → IsSome (all s) → Cause)
-      → (olds news : List S) (files : List (List ℕ)) → AllZip (Stays g) olds news → All IsNew olds
-      → map left olds ≡ map Some files → list_any lacks news ≡ false
-      → (n : ℕ) → 0 < slice_index (map failures news) n → Cause
-  has-cause g same lacks Cause failed [] [] files stay fresh are none n rose = absurd (omega (arith, rose))
-  has-cause g same lacks Cause failed [] (new ∷ news) files stay fresh are none n rose = absurd stay
-  has-cause g same lacks Cause failed (old ∷ olds) [] files stay fresh are none n rose = absurd stay
-  has-cause g same lacks Cause failed (old ∷ olds) (new ∷ news) [] stay fresh are none n rose = absurd cc
-  has-cause g same lacks Cause failed (old ∷ olds) (new ∷ news) (bytes ∷ files) stay fresh are none zero rose =
-      let here : left old ≡ Some bytes = grind arith in
-      let unopened = not-opened rest (all old) (file old) (progress old) (All-head IsNew old olds fresh).1 in
-      let now = same old new stay.0 bytes (sym unopened ∙ here) in
-      failed new rose (first-not (lacks new) (list_any lacks news) none) (subst IsSome (sym now) refl)
-  has-cause g same lacks Cause failed (old ∷ olds) (new ∷ news) (bytes ∷ files) stay fresh are none (suc n) rose =
-      let others : map left olds ≡ map Some files = grind arith in
-      has-cause g same lacks Cause failed olds news files stay.1 (All-tail IsNew old olds fresh) others
-      (others-not (lacks new) (list_any lacks news) none) n rose
+    -- If each source that has failed has a cause, unless its file isn't there or memory ran out: so has the source with
+    -- number n, which was new, and whose file is there.
+    pub has-cause : (lacks : S → Bool) (Cause : Type 0)
+        → ((s : S) → 0 < failures s → lacks s ≡ false → IsSome (all s) → Cause)
+        → (olds news : List S) (files : List (List ℕ)) → AllZip (Stays g) olds news → All IsNew olds
+        → map left olds ≡ map Some files → list_any lacks news ≡ false
+        → (n : ℕ) → 0 < slice_index (map failures news) n → Cause
+    has-cause lacks Cause failed [] [] files stay fresh are none n rose = absurd (omega (arith, rose))
+    has-cause lacks Cause failed [] (new ∷ news) files stay fresh are none n rose = absurd stay
+    has-cause lacks Cause failed (old ∷ olds) [] files stay fresh are none n rose = absurd stay
+    has-cause lacks Cause failed (old ∷ olds) (new ∷ news) [] stay fresh are none n rose = absurd cc
+    has-cause lacks Cause failed (old ∷ olds) (new ∷ news) (bytes ∷ files) stay fresh are none zero rose =
+        failed new rose (grind arith) (whole old new bytes stay.0 (All-head IsNew old olds fresh) (grind arith))
+    has-cause lacks Cause failed (old ∷ olds) (new ∷ news) (bytes ∷ files) stay fresh are none (suc n) rose =
+        has-cause lacks Cause failed olds news files stay.1 (All-tail IsNew old olds fresh) (grind arith) (grind arith)
+        n rose
 
   counts-new : (sources : List S) → All IsNew sources → (n : ℕ) → slice_index (map failures sources) n ≡ 0
   counts-new [] fresh n = refl

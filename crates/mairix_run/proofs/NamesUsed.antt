@@ -1,5 +1,5 @@
 -- The names that the parts of a run use are among those of the run.
-use Rattle.std.proofs.Common.{◌≡◌, refl, sym, subst, ℕ, zero, suc, ◌<◌, Bool, true, false, not, ◌&&◌, ◌||◌, ◌==◌, List, [], ◌∷◌, ◌++◌, map, length, Option, Some, Ok, if◌then◌else◌, slice_index_or, arith}
+use Rattle.std.proofs.Common.{◌≡◌, refl, sym, subst, ℕ, zero, suc, ◌<◌, true, false, ◌&&◌, ◌||◌, ◌==◌, List, [], ◌∷◌, ◌++◌, map, length, Some, Ok, if◌then◌else◌, slice_index_or, arith}
 use Rattle.std.proofs.lemmas.List.Elements.{Contains-append_left, Contains-append_right}
 use Rattle.std.specs.List.{Contains}
 use Rattle.mairix_options.specs.AnswerFiles.{answer_file}
@@ -32,23 +32,6 @@ among-names text (here ∷ names) (suc n) name is below = contains-more (text he
 
 -- ---- names that an rcfile asks for
 
-module _ (paths : List (List ℕ)) (database : List ℕ) (file : Option (List ℕ)) where
-  abbrev Names : Bool → Bool → List (List ℕ)
-  Names empty once = paths ++ ((if once || (empty && not once) then [] else database ∷ [])
-      ++ both_names (if empty && not once then Some database else file))
-
-  new-among : (empty once : Bool) → (empty && not once) ≡ true → (path : List ℕ)
-      → Contains (database ∷ temporary_of database ∷ []) path → Contains (Names empty once) path
-  new-among empty once is path among = grind (arith, Contains-append_right)
-
-  once-among : (empty once : Bool) → once ≡ true → (path : List ℕ) → Contains (both_names file) path
-      → Contains (Names empty once) path
-  once-among empty once is path among = grind (arith, Contains-append_right)
-
-  stored-among : (empty once : Bool) → (empty && not once) ≡ false → once ≡ false → (path : List ℕ)
-      → Contains (database ∷ both_names file) path → Contains (Names empty once) path
-  stored-among empty once new is path among = grind (arith, Contains-append_right)
-
 module _ (p : Plan) (rc : Rc) where
   -- a search makes no file but that of its answer
   pub file-searched : is_index_run p ≡ false → answer_file p rc ≡ file_asked p rc
@@ -63,15 +46,15 @@ module _ (p : Plan) (rc : Rc) where
 
   pub new-index-asked : is_index_run p ≡ true → (path : List ℕ)
       → Contains (rc.database ∷ temporary_of rc.database ∷ []) path → Contains (names_asked p rc) path
-  new-index-asked is path among = grind (arith, new-among)
+  new-index-asked is path among = grind (arith, Contains-append_right)
 
   pub once-asked : p.once ≡ true → (path : List ℕ) → Contains (both_names (answer_file p rc)) path
       → Contains (names_asked p rc) path
-  once-asked is path among = grind (arith, once-among)
+  once-asked is path among = grind (arith, Contains-append_right)
 
   pub stored-asked : is_index_run p ≡ false → p.once ≡ false → (path : List ℕ)
       → Contains (rc.database ∷ both_names (answer_file p rc)) path → Contains (names_asked p rc) path
-  stored-asked new is path among = grind (arith, stored-among)
+  stored-asked new is path among = grind (arith, Contains-append_right)
 
   -- an rcfile that is there asks for them
   pub asked-planned : (holds : List ℕ → Entry) (text : List ℕ) → bytes_of (holds p.rcfile) ≡ Some text

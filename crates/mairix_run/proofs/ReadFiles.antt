@@ -7,15 +7,9 @@ all_map : {B C : Type 0} (f : B → Bool) (h : C → B) (xs : List C) → list_a
 all_map f h [] = refl
 all_map f h (x ∷ xs) = ap (λ b. f (h x) && b) (all_map f h xs)
 
--- first one that may be, and then the others
-all_read : {A B C : Type 0} (f : B → Bool) (g : A → B) (one : Option A) (h : C → B) (xs : List C)
-    → list_all f (option_map_or (λ a. g a ∷ []) one [] ++ map h xs)
-    ≡ (option_map_or (λ a. f (g a)) one true && list_all (λ x. f (h x)) xs)
-all_read f g one h xs = grind (arith, all_map)
-
 -- if the first one and the one that may be pass, all pass exactly if the others do
 pub all_exact : {A B C E : Type 0} (f : B → Bool) (g : A → B) (one : Option A) (h : C → B) (xs : List C) (first : B)
     (P : Type 0) (result : Result Bool E) → (P → f first ≡ true) → (P → option_map_or (λ a. f (g a)) one true ≡ true)
     → IfOk result (λ are. P → are ≡ list_all (λ x. f (h x)) xs)
     → IfOk result (λ are. P → are ≡ (f first && list_all f (option_map_or (λ a. g a ∷ []) one [] ++ map h xs)))
-all_exact f g one h xs first P result passes may rest = grind (arith, all_read)
+all_exact f g one h xs first P result passes may rest = grind (arith, all_map)

@@ -1,19 +1,16 @@
 -- A run's reply as a result. An answer with a fault is the refusal with that fault, so nothing was sent.
-use Rattle.std.proofs.Common.{◌≡◌, ◌∙◌, ◌||◌, ℕ, Bool, List, [], Option, None, Some, Result, Ok, Err, ◌≤◌, if◌then◌else◌, arith, is_err, refl, sym, subst, inl, inr, append-nil, slice_index}
-use Rattle.std.specs.Bool.{MatchBool, OnTrue}
+use Rattle.std.proofs.Common.{◌≡◌, ◌∙◌, ◌||◌, ℕ, Bool, List, [], Option, None, Some, Result, Ok, Err, ◌≤◌, if◌then◌else◌, arith, is_err, sym, inl, inr, append-nil, slice_index}
+use Rattle.std.specs.Bool.{OnTrue}
 use Rattle.std.specs.Io.KnownBytes.{Appends}
 use Rattle.std.specs.Result.{MatchResult}
 use Rattle.contract_words.specs.Devices.{Counted, Sends}
-use Rattle.mail_answer.specs.Mail.{Search}
-use Rattle.mail_answer.specs.Stale.{stale_archive}
 use Rattle.mail_index.specs.Tables.{Table}
-use Rattle.run_faults.specs.Faults.{IsOnceFault, fault_in, is_early, is_failed_source, is_failure, is_of_indexing}
+use Rattle.run_faults.specs.Faults.{IsOnceFault, fault_in, is_early, is_failed_source, is_of_indexing}
 use Rattle.run_faults.specs.declared.fault.Fault.{Fault}
 use Rattle.run_faults.specs.declared.fault.Fault.TheVariants as of
-use Rattle.run_faults.specs.declared.fault.Fault.TheVariants.{Index, Stale}
 use Rattle.mairix_tool.specs.Asked.{Wanted}
 use Rattle.mairix_tool.specs.Replies.{Answer, IsConsistent, RefusesAsked, answer_of_fault}
-use Rattle.mairix_tool.specs.Runs.{IsAnswerFrom, IsOldOr, IsVerifiedAnswer, IsReply, IsStaleOr, IsStoredReply, IsThisOrMemory, IsAnswerOrStale, IsStoredAnswer, RepliesBy, answer_of_text, is_too_old, renamed_archive}
+use Rattle.mairix_tool.specs.Runs.{IsOldOr, IsVerifiedAnswer, IsReply, IsStaleOr, IsStoredReply, IsThisOrMemory, IsStoredAnswer, RepliesBy, is_too_old, renamed_archive}
 use Rattle.mairix_tool.specs.declared.reply.Reply.{Reply}
 use Rattle.mairix_run.specs.Answered.{AnswersBy, comes_before, result_by, result_of_reply}
 
@@ -22,31 +19,19 @@ use Rattle.mairix_run.specs.Answered.{AnswersBy, comes_before, result_by, result
 abbrev pub IsPlain : Answer → Type 0
 IsPlain answer = (fault : Fault) → answer.reply.fault ≡ Some fault → answer ≡ answer_of_fault fault
 
-plain-refused : (a : Answer) (f : Fault) → a ≡ answer_of_fault f → IsPlain a
-plain-refused a f is = grind arith
-
-plain-answered : (a : Answer) (text : List ℕ) (messages : ℕ) → a ≡ answer_of_text text messages → IsPlain a
-plain-answered a text messages is = grind arith
-
 pub plain-reply : (asked : Result Wanted Fault) (bytes : List (List ℕ)) (a : Answer) → IsReply asked bytes a → IsPlain a
-plain-reply asked bytes a is = grind (arith, plain-refused, plain-answered)
+plain-reply asked bytes a is = grind arith
 
 pub plain-stale : (o : Option ℕ) (IsFound : Answer → Type 0) → ((a : Answer) → IsFound a → IsPlain a) → (a : Answer)
     → IsStaleOr o IsFound a → IsPlain a
-plain-stale o IsFound plain a is = grind (arith, plain-refused)
-
-plain-found : (t : Table) (s : Search) (held : List (List ℕ)) (a : Answer) → IsAnswerFrom t s held a → IsPlain a
-plain-found t s held a (numbers, chosen, is) = plain-answered a _ _ is
-
-plain-told : (t : Table) (s : Search) (held : List (List ℕ)) (a : Answer) → IsAnswerOrStale t s held a → IsPlain a
-plain-told t s held = plain-stale (stale_archive t.archives held) (IsAnswerFrom t s held) (plain-found t s held)
+plain-stale o IsFound plain a is = grind arith
 
 plain-proved : (w : Wanted) (t : Table) (held : List (List ℕ)) (a : Answer) → IsVerifiedAnswer w t held a → IsPlain a
-plain-proved w t held = grind (arith, plain-stale, plain-told)
+plain-proved w t held = grind arith
 
 plain-old : (old : Bool) (IsFound : Answer → Type 0) → ((a : Answer) → IsFound a → IsPlain a) → (a : Answer)
     → IsOldOr old IsFound a → IsPlain a
-plain-old old IsFound plain a is = grind (arith, plain-refused)
+plain-old old IsFound plain a is = grind arith
 
 plain-of : (w : Wanted) (t : Table) (held : List (List ℕ)) (a : Answer) → IsStoredAnswer w t held a → IsPlain a
 plain-of w t held =
@@ -55,59 +40,35 @@ plain-of w t held =
 
 pub plain-stored : (asked : Result Wanted Fault) (index : List ℕ) (held : List (List ℕ)) (a : Answer)
     → IsStoredReply asked index held a → IsPlain a
-plain-stored (Err fault) index held a is = plain-refused a fault is
-plain-stored (Ok w) index held a (inl (fault, first, is)) = plain-refused a (Index fault) is
+plain-stored (Err fault) index held a is = grind arith
+plain-stored (Ok w) index held a (inl is) = grind arith
 plain-stored (Ok w) index held a (inr (t, file, told)) = plain-of w t held a told
 
 -- ---- the result that is right
 
-appends-none : (old : Option (List ℕ)) → Appends old old []
+-- nothing was sent
+pub appends-none : (old : Option (List ℕ)) → Appends old old []
 appends-none None = tt
 appends-none (Some xs) = sym (append-nil xs)
 
 -- if nothing was sent, a front of any text was
-sends-none : (old new : Option (List ℕ)) (text : List ℕ) → new ≡ old → Sends old new text
+pub sends-none : (old new : Option (List ℕ)) (text : List ℕ) → new ≡ old → Sends old new text
 sends-none old new text same = grind (arith, appends-none)
 
 module _ (IsRight : Answer → Type 0) (plain : (a : Answer) → IsRight a → IsPlain a) (old new : Option (List ℕ)) where
-  abbrev IsFront : Type 0
-  IsFront = (answer : Answer) → IsRight answer → Sends old new answer.text
-
-  abbrev IsWhole : Reply → Type 0
-  IsWhole reply = (answer : Answer) × IsRight answer × (reply ≡ answer.reply) × Appends old new answer.text
-
-  -- with a fault that is no failure
-  refusal : (reply : Reply) (fault : Fault) → reply.fault ≡ Some fault → (failed : Bool)
-      → MatchBool failed IsFront (IsWhole reply)
-      → MatchBool failed IsFront (IsRight (answer_of_fault fault) × Appends old new [])
-  refusal reply fault has failed h = grind arith
-
-  with-fault : (reply : Reply) (fault : Option Fault) → reply.fault ≡ fault
-      → MatchBool (is_failure fault) IsFront (IsWhole reply) → AnswersBy IsRight (result_by reply.status fault) old new
-  with-fault reply fault has h = grind (arith, refusal)
-
   -- the result of a reply that is right
   pub answers-by : (reply : Reply) (result : Result ℕ Fault) → result ≡ result_of_reply reply
       → RepliesBy IsRight reply old new → AnswersBy IsRight result old new
-  answers-by reply result is h = grind (arith, with-fault)
+  answers-by reply result is h = grind arith
 
   -- if no source failed, the reply is right; if one did, nothing was sent
-  indexed-fault : (reply : Reply) (counts : List ℕ) (IsSilent : Type 0) (fault : Option Fault) → reply.fault ≡ fault
-      → ((n : ℕ) → Counted (is_failed_source n fault) 0 (slice_index counts n))
-      → OnTrue (is_of_indexing fault) IsSilent → (IsSilent → new ≡ old)
-      → (((n : ℕ) → slice_index counts n ≡ 0) → MatchBool (is_failure fault) IsFront (IsWhole reply))
-      → AnswersBy IsRight (result_by reply.status fault) old new
-  indexed-fault reply counts IsSilent fault has counted silent same is = grind (arith, with-fault, sends-none)
-
   pub indexed-answers-by : (reply : Reply) (counts : List ℕ) (result : Result ℕ Fault) (IsSilent : Type 0)
       → result ≡ result_of_reply reply
       → ((n : ℕ) → Counted (is_failed_source n reply.fault) 0 (slice_index counts n))
       → OnTrue (is_of_indexing reply.fault) IsSilent → (IsSilent → new ≡ old)
       → (((n : ℕ) → slice_index counts n ≡ 0) → RepliesBy IsRight reply old new)
       → AnswersBy IsRight result old new
-  indexed-answers-by reply counts result IsSilent made counted silent same is =
-      subst (λ (r : Result ℕ Fault). AnswersBy IsRight r old new) (sym made)
-      (indexed-fault reply counts IsSilent reply.fault refl counted silent same is)
+  indexed-answers-by reply counts result IsSilent made counted silent same is = grind (arith, sends-none)
 
 -- ---- what is refused first
 

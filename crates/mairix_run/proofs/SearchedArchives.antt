@@ -1,6 +1,6 @@
 -- If each path leads to a file, archives of which something is still known have the bytes of these files. The first
 -- states are all states by their numbers.
-use Rattle.std.proofs.Common.{arith, ◌≡◌, ◌∙◌, ◌&&◌, ℕ, zero, suc, Bool, true, List, [], ◌∷◌, map, All, Option, None, Some, IfSome, IsSome, Result, IfOk, refl, ap, subst, sym, slice_get, get_or}
+use Rattle.std.proofs.Common.{arith, ◌≡◌, ◌∙◌, ◌&&◌, ℕ, zero, suc, Bool, true, List, [], ◌∷◌, map, All, Option, None, Some, IfSome, IsSome, Result, refl, ap, slice_get, get_or}
 use Rattle.std.proofs.lemmas.List.Elements.{All-cons, All-nil}
 use Rattle.std.specs.Option.{option_map}
 use Rattle.std.specs.Result.{MatchResult}
@@ -15,17 +15,13 @@ all-some [] = All-nil IsSome
 all-some (b ∷ bytes) = All-cons IsSome (Some b) (map Some bytes) refl (all-some bytes)
 
 pub are-some : (files : List (Option (List ℕ))) (bytes : List (List ℕ)) → files ≡ map Some bytes → All IsSome files
-are-some files bytes is = subst (λ (l : List (Option (List ℕ))). All IsSome l) (sym is) (all-some bytes)
-
-held-files : (agrees : Bool) (files : List (Option (List ℕ))) (bytes : List (List ℕ)) → files ≡ map Some bytes
-    → IsSome (held_while agrees files) → held_while agrees files ≡ Some bytes
-held-files agrees files bytes is some = grind (arith, all-known)
+are-some files bytes is = grind (arith, all-some)
 
 -- what is known after the calls, if each name led to a file before them
 pub held-at-end : (before files : List (Option (List ℕ))) (agrees : Bool) (bytes : List (List ℕ))
     → (before ≡ map Some bytes → files ≡ map Some bytes) → (All IsSome files → IsSome (held_while agrees files))
     → before ≡ map Some bytes → held_while agrees files ≡ Some bytes
-held-at-end before files agrees bytes whole known is = grind (arith, held-files, are-some)
+held-at-end before files agrees bytes whole known is = grind (arith, all-known, all-some)
 
 -- all reports agree only if the first ones do
 pub first-agree : (first more all : Bool) → all ≡ (first && more) → all ≡ true → first ≡ true
@@ -39,10 +35,6 @@ state-at (s ∷ states) zero = refl
 state-at (s ∷ states) (suc k) = state-at states k
 
 -- ---- by cases
-
-pub if-ok : {A E : Type 0} (result : Result A E) (P Q : A → Type 0) → ((x : A) → P x → Q x) → IfOk result P
-    → IfOk result Q
-if-ok result P Q f h = grind arith
 
 -- a fault that is so under a premise
 pub ended-if : {A E : Type 0} (Few : Type 0) (result : Result A E) (P : A → Type 0) (Q : E → Type 0)

@@ -1,9 +1,8 @@
 -- A failed read of an archive has a cause. If memory ran out as it was opened, that is lack of memory.
-use Rattle.std.proofs.Common.{◌≡◌, ◌∙◌, ◌⊎◌, refl, sym, subst, ℕ, ◌<◌, ◌≤◌, ◌+◌, Bool, true, false, if◌then◌else◌, Option, Some, Result, Ok, Err, IfErr, List, map, slice_index, arith}
-use Rattle.std.proofs.lemmas.Bool.Decides.{nat_tests}
+use Rattle.std.proofs.Common.{◌≡◌, ◌∙◌, ◌⊎◌, ℕ, ◌<◌, ◌≤◌, ◌+◌, Bool, false, if◌then◌else◌, Option, Some, Result, Ok, Err, IfErr, List, map, slice_index, arith}
 use Rattle.std.specs.Borrow.{Bor}
 use Rattle.std.specs.Bool.{⊤, OnFalse, OnTrue}
-use Rattle.std.specs.Result.{MatchResult, result_and}
+use Rattle.std.specs.Result.{result_and}
 use Rattle.contract_words.specs.Devices.{Counted}
 use Rattle.mbox_cutter.specs.declared.event.CutFault.TheVariants.{Device as Unread}
 use Rattle.run_faults.specs.Faults.{fault_in, is_failed_archives, is_failed_out, is_failed_source, IsOfIndexing, IsSearchFault}
@@ -11,38 +10,17 @@ use Rattle.run_faults.specs.declared.fault.Fault.{Fault}
 use Rattle.run_faults.specs.declared.fault.Fault.TheVariants.{Archive, Device, Out, Memory}
 use Rattle.mairix_tool.specs.Asked.{Wanted}
 use Rattle.mairix_tool.specs.Replies.{Answer, IsConsistent}
-use Rattle.mairix_tool.specs.Runs.{IsThisOrMemory}
 use Rattle.mairix_tool.specs.declared.reply.Reply.{Reply}
 use Rattle.mbox_cutter.specs.declared.device.Out.{Ghosts}
-use Rattle.mairix_run.proofs.SearchedArchives.{if-ok, if-some}
-use Rattle.mairix_run.specs.Answered.{AnswersBy, IsReplyBy, IsSearchFaultBy, LeavesUnsent, SearchesFiles, is_unread, result_with_memory}
-
--- the faults of an archive that couldn't be read
-unread-cases : (P : Fault → Type 0) → ((n : ℕ) → P (Archive n Unread)) → P Device → (fault : Fault)
-    → is_unread (Some fault) ≡ true → P fault
-unread-cases P source archives fault is = grind (arith, source, archives)
+use Rattle.mairix_run.proofs.SearchedArchives.{if-some}
+use Rattle.mairix_run.specs.Answered.{AnswersBy, IsSearchFaultBy, SearchesFiles, is_unread, result_with_memory}
 
 -- ---- lack of memory in place of a failed read
-
-module _ (P : Result ℕ Fault → Type 0) (source : (n : ℕ) → P (Err (Archive n Unread)) → P (Err Memory))
-    (archives : P (Err Device) → P (Err Memory)) where
-  by-memory : (lacks : Bool) (r : Result ℕ Fault) → P r → P (result_with_memory lacks r)
-  by-memory lacks r is = grind (arith, unread-cases)
-
-  -- what is so of what was written is so of this
-  pub with-memory : (lacks : Bool) (r result : Result ℕ Fault) → result ≡ result_with_memory lacks r → P r → P result
-  with-memory lacks r result made is = subst P (sym made) (by-memory lacks r is)
 
 -- an answer, or a front of one
 answers-memory : (Is : Answer → Type 0) (old new : Option (List ℕ)) (lacks : Bool) (r result : Result ℕ Fault)
     → result ≡ result_with_memory lacks r → AnswersBy Is r old new → AnswersBy Is result old new
-answers-memory Is old new = with-memory (λ r. AnswersBy Is r old new) (λ n h. h) (λ h. h)
-
--- what it left unsent
-unsent-memory : {O : Type 0} (asked : Result Wanted Fault) (old new : O) (lacks : Bool) (r result : Result ℕ Fault)
-    → result ≡ result_with_memory lacks r → LeavesUnsent asked (fault_in r) old new
-    → LeavesUnsent asked (fault_in result) old new
-unsent-memory asked old new = grind (arith, with-memory, if-ok)
+answers-memory Is old new = grind arith
 
 -- lack of memory is a fault of any search
 memory-searched : (index : Option (Bor (List ℕ))) → IsSearchFaultBy index Memory
@@ -58,24 +36,16 @@ pub searched-memory : {O : Type 0} (o : Ghosts O) (asked : Result Wanted Fault) 
     → SearchesFiles o asked index AreFew AreHeldNow files ReadFailsNow result out out'
 searched-memory o asked index AreFew AreHeld AreHeldNow files ReadFails ReadFailsNow out out' lacks r result made held
     cause s = record {
-      answers = λ few bytes now. answers-memory (IsReplyBy asked index bytes) _ _ lacks r result made
-          (s.answers few bytes (held bytes now));
+      answers = λ few bytes now. grind arith;
       by_messages = if-some index _ _ (λ i is few bytes now. let by = is few bytes (held bytes now) in record {
-        indexed = λ w asks many sound serves. answers-memory _ _ _ lacks r result made
-            (by.indexed w asks many sound serves);
+        indexed = λ w asks many sound serves. grind arith;
         verified = λ w before asks verify paths sound file apart. answers-memory _ _ _ lacks r result made
             (by.verified w before asks verify paths sound file apart);
       }) s.by_messages;
-      refused = λ fault few first. with-memory (λ r. IsThisOrMemory fault (fault_in r) × (out' ≡ out))
-          (λ n h. (tt, h.1)) (λ h. (tt, h.1)) lacks r result made (s.refused fault few first);
-      ending = with-memory (λ r. MatchResult r (λ status. status ≤ 1) (λ fault. AreFew → IsSearchFaultBy index fault))
-          (λ n h few. memory-searched index) (λ h few. memory-searched index) lacks r result made s.ending;
-      unsent = unsent-memory asked out out' lacks r result made s.unsent;
-      causes = record {
-        unread = cause;
-        out_failed = with-memory (λ r. Counted (is_failed_out (fault_in r)) (o.failures out) (o.failures out'))
-            (λ n h. h) (λ h. h) lacks r result made s.causes.out_failed;
-      };
+      refused = grind arith;
+      ending = grind (arith, memory-searched);
+      unsent = grind arith;
+      causes = record { unread = cause; out_failed = grind arith };
     }
 
 -- ---- the cause of a failed read
@@ -86,24 +56,14 @@ module _ (Cause : Type 0) (lacks : Bool) (r : Result ℕ Fault)
   abbrev HasCause : Result ℕ Fault → Type 0
   HasCause result = OnTrue (is_unread (fault_in result)) Cause
 
-  by-fault : (fault : Fault) → r ≡ Err fault → (unread : Bool) → is_unread (Some fault) ≡ unread → lacks ≡ false
-      → OnTrue unread Cause
-  by-fault fault is b unread not = grind (arith, unread-cases)
-
-  by-lack : (fault : Fault) → r ≡ Err fault → (b : Bool) → lacks ≡ b → HasCause (result_with_memory b (Err fault))
-  by-lack fault is b not = grind (arith, by-fault)
-
-  by-result : (one : Result ℕ Fault) → r ≡ one → HasCause (result_with_memory lacks one)
-  by-result one is = grind (arith, by-lack)
-
   pub unread-cause : (result : Result ℕ Fault) → result ≡ result_with_memory lacks r → HasCause result
-  unread-cause result made = subst HasCause (sym made) (by-result r refl)
+  unread-cause result made = grind arith
 
 -- an archive that couldn't be read has a cause, since the count of failures that rose has one
 pub reads-fail : (Cause : Type 0) (failures old : ℕ) (lacks : Bool) (r result : Result ℕ Fault)
     → result ≡ result_with_memory lacks r → OnTrue (is_unread (fault_in r)) ((old < failures) ⊎ Cause)
     → (0 < failures → lacks ≡ false → Cause) → OnTrue (is_unread (fault_in result)) Cause
-reads-fail Cause failures old lacks r result made is cause = grind (arith, unread-cause)
+reads-fail Cause failures old lacks r result made is cause = grind arith
 
 -- a search of a stored index fails to read only if the count of failures rose
 pub stored-reads : (reply : Reply) (old new : ℕ) (fault : Option Fault) → IsConsistent IsSearchFault reply fault
@@ -119,7 +79,7 @@ on-any b = grind arith
 -- the count of the source that failed rose
 pub source-counted : (counts : List ℕ) (n : ℕ) (fault : Option Fault) → fault ≡ Some (Archive n Unread)
     → ((k : ℕ) → Counted (is_failed_source k fault) 0 (slice_index counts k)) → 0 < slice_index counts n
-source-counted counts n fault is counted = grind (arith, counted, nat_tests)
+source-counted counts n fault is counted = grind arith
 
 -- the count of the archives rose
 pub archives-counted : (fault : Option Fault) (old new : ℕ) → fault ≡ Some Device

@@ -1,21 +1,21 @@
 -- What an output took for the work of a run, by what its parts say.
-use Rattle.std.proofs.Common.{◌≡◌, ◌∙◌, ◌⊎◌, ◌≤◌, ◌<◌, ◌^◌, inl, inr, refl, sym, ℕ, Bool, true, false, List, [], append-nil, Option, None, Some, Result, Ok, Err, length, IfErr, OnOk, ◌+◌, arith}
+use Rattle.std.proofs.Common.{◌≡◌, ◌∙◌, ◌⊎◌, ◌≤◌, ◌<◌, ◌^◌, ℕ, Bool, true, false, List, [], Option, None, Some, Result, Ok, Err, length, IfErr, OnOk, ◌+◌, arith}
 use Rattle.std.proofs.lemmas.Bool.Decides.{nat_tests}
-use Rattle.std.specs.Bool.{MatchBool, OnFalse, OnTrue}
+use Rattle.std.specs.Bool.{OnFalse, OnTrue}
 use Rattle.std.specs.Borrow.{Bor}
 use Rattle.std.specs.Option.{option_map}
-use Rattle.std.specs.Io.KnownBytes.{Appends, Keeps}
+use Rattle.std.specs.Io.KnownBytes.{Appends}
 use Rattle.contract_words.specs.Devices.{Counted, Sends}
-use Rattle.index_job.specs.ArchiveTables.{Mbox, table}
-use Rattle.mail_index.specs.Files.{index_file}
+use Rattle.index_job.specs.ArchiveTables.{Mbox}
 use Rattle.mairix_tool.specs.Asked.{Wanted}
-use Rattle.mairix_tool.specs.Replies.{Answer, answer_of_fault}
+use Rattle.mairix_tool.specs.Replies.{Answer}
 use Rattle.mairix_tool.specs.Runs.{IsReply, IsStoredReply}
 use Rattle.mbox_cutter.specs.declared.device.Out.{Ghosts}
 use Rattle.mbox_cutter.specs.declared.event.CutFault.TheVariants.{Device as Unread}
-use Rattle.run_faults.specs.Faults.{fault_in, is_failed_out, is_failure}
+use Rattle.run_faults.specs.Faults.{fault_in, is_failed_out}
 use Rattle.run_faults.specs.declared.fault.Fault.{Fault}
 use Rattle.run_faults.specs.declared.fault.Fault.TheVariants.{Index, Device, Out, TooMany}
+use Rattle.mairix_run.proofs.Replies.{appends-none, sends-none}
 use Rattle.mairix_run.specs.Answered.{AnswersBy, IsReplyBy, is_unread}
 use Rattle.mairix_run.specs.LastFlush.{IsFlushed}
 use Rattle.mairix_run.specs.Indexed.{IsIndexRunResult}
@@ -23,28 +23,10 @@ use Rattle.mairix_run.specs.Tasks.{Work, IsAnswered, IsDone, IsRefusedSearch, Is
 use Rattle.mairix_run.specs.Tasks.Work.{Index as IndexWork}
 use Rattle.mairix_run.specs.WholeRuns.{IsFailure, IsWritten}
 
--- nothing was sent
-appends-nothing : (t : Option (List ℕ)) → Appends t t []
-appends-nothing None = tt
-appends-nothing (Some xs) = sym (append-nil xs)
-
-pub sends-nothing : (t : Option (List ℕ)) (text : List ℕ) → Sends t t text
-sends-nothing t text = ([], text, refl, appends-nothing t)
-
--- a failure of a device or of memory, in which output and archives failed only with their causes
-failure-of : (fault : Fault) (OutFails ReadFails : Type 0) → (is_failed_out (Some fault) ≡ true → OutFails)
-    → OnTrue (is_unread (Some fault)) ReadFails → is_failure (Some fault) ≡ true → IsFailure OutFails ReadFails fault
-failure-of fault OutFails ReadFails cause read is = grind arith
-
--- a failure that has one cause has another that follows from it
-failure-weaker : (A B ReadFails : Type 0) (fault : Fault) → (A → B) → IsFailure A ReadFails fault
-    → IsFailure B ReadFails fault
-failure-weaker A B ReadFails fault follows is = grind arith
-
 -- so has what was written
 pub written-weaker : (A B ReadFails : Type 0) (work : Work) (old new : Option (List ℕ)) (result : Result ℕ Fault)
     → (A → B) → IsWritten A ReadFails work old new result → IsWritten B ReadFails work old new result
-written-weaker A B ReadFails work old new result follows is = grind (arith, failure-weaker)
+written-weaker A B ReadFails work old new result follows is = grind arith
 
 -- a device of which one more call has failed has failed
 pub once-failed : (before after : ℕ) → after ≡ before + 1 → 0 < after
@@ -61,18 +43,9 @@ module _ (Is : Answer → Type 0) (bytes : List (List ℕ)) (OutFails ReadFails 
       (((status : ℕ) (text : List ℕ) → IsAnswered Is status text → Sends old new text)
       ⊎ ((status : ℕ) × (text : List ℕ) × IsAnswered Is status text × Appends old new text)))
 
-  by-failure : (failed : Bool) (fault : Fault) → is_failure (Some fault) ≡ failed
-      → (is_failed_out (Some fault) ≡ true → OutFails) → OnTrue (is_unread (Some fault)) ReadFails
-      → MatchBool failed ((answer : Answer) → Is answer → Sends old new answer.text)
-      (Is (answer_of_fault fault) × Appends old new []) → IsAnswerWritten (Err fault)
-  by-failure failed fault is cause read sends = grind (arith, failure-of)
-
   answer-written : (result : Result ℕ Fault) → (is_failed_out (fault_in result) ≡ true → OutFails)
       → OnTrue (is_unread (fault_in result)) ReadFails → AnswersBy Is result old new → IsAnswerWritten result
-  answer-written result cause read h = grind (arith, by-failure)
-
-  too-many-written : 2 ^ 32 ≤ length bytes → Appends old new [] → IsAnswerWritten (Err TooMany)
-  too-many-written many sent = inl (inr (many, refl), sent)
+  answer-written result cause read h = grind arith
 
 -- what a search wrote, with or without a stored index, if it isn't of too many archives
 pub searched-written : (wanted : Result Wanted Fault) (index : Option (Bor (List ℕ))) (bytes : List (List ℕ))
@@ -96,12 +69,7 @@ pub too-many-searched : (wanted : Result Wanted Fault) (index : Option (Bor (Lis
     ≡ Err TooMany
     → IsWritten OutFails ReadFails (search_work wanted (option_map (λ i. i.now) index) bytes) t t result
 unfolding IsDone IsWorkRefused
-too-many-searched wanted None bytes OutFails ReadFails t (Err TooMany) many is =
-    too-many-written (IsReply wanted bytes) bytes OutFails ReadFails t t many (appends-nothing t)
-too-many-searched wanted (Some i) bytes OutFails ReadFails t (Err TooMany) many is =
-    too-many-written (IsStoredReply wanted i.now bytes) bytes OutFails ReadFails t t many (appends-nothing t)
-too-many-searched wanted index bytes OutFails ReadFails t (Ok status) many is = absurd cc
-too-many-searched wanted index bytes OutFails ReadFails t (Err fault) many is = absurd cc
+too-many-searched wanted index bytes OutFails ReadFails t result many is = grind (arith, appends-none)
 
 -- ---- an index
 
@@ -118,10 +86,8 @@ pub indexed-written : (archives : List Mbox) (OutFails ReadFails : Type 0) (old 
     → ((fault : Fault) → result ≡ Err fault → is_failed_out (Some fault) ≡ false → new ≡ old)
     → IsIndexRunResult archives old new result → IsWritten OutFails ReadFails (IndexWork archives) old new result
 unfolding IsDone IsWorkRefused
-indexed-written archives OutFails ReadFails old new (Ok status) cause read silent is =
-    (index_file (table archives), (is.0, is.1, refl), is.2)
-indexed-written archives OutFails ReadFails old new (Err fault) cause read silent is =
-    grind (arith, sends-nothing, appends-nothing)
+indexed-written archives OutFails ReadFails old new result cause read silent is =
+    grind (arith, sends-none, appends-none)
 
 -- ---- causes and counts
 
@@ -134,10 +100,6 @@ counted-once failed old new is has = grind arith
 
 -- ---- on standard output
 
-keeps-appends : (old mid new : Option (List ℕ)) (text : List ℕ) → Appends old mid text → Keeps mid new
-    → Appends old new text
-keeps-appends old mid new text sent kept = grind arith
-
 -- what was written, and then flushed
 pub flushed-writes : {O : Type 0} (o : Ghosts O) (handed_on : O → Option (List ℕ)) (ReadFails : Type 0) (w : Work)
     (out mid new : O)
@@ -147,4 +109,4 @@ pub flushed-writes : {O : Type 0} (o : Ghosts O) (handed_on : O → Option (List
     → IsFlushed o handed_on written mid new result
     → IsWritten (o.failures new ≡ o.failures out + 1) ReadFails w (o.taken out) (o.taken new) result
     × OnOk result (handed_on new ≡ o.taken new)
-flushed-writes o handed_on ReadFails w out mid new written result is count h = grind (arith, keeps-appends)
+flushed-writes o handed_on ReadFails w out mid new written result is count h = grind arith

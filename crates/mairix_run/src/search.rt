@@ -5,16 +5,14 @@ ghost use Rattle.std.specs.Option.{option_map};
 ghost use Rattle.mairix_options.specs.AnswerFiles.{answer_file as answer_file_of};
 ghost use Rattle.mairix_run.specs.Inside.RunParts.{Ran};
 ghost use Rattle.mairix_run.specs.NamesUsed.{both_names};
-ghost use Rattle.mairix_run.specs.ReadFiles.{names_read};
 ghost use Rattle.mairix_run.specs.Stops.{ending_of_result};
 ghost use Rattle.mairix_run.specs.Tasks.{files_at, is_index_run, search_task, search_work};
-ghost use Rattle.mairix_run.specs.WholeRuns.{CallsFor, IsTrouble, KeepsOld, LeavesInMaking, MakesFor, Puts, WritesWork, is_left_alone, temporary_of, refused_name};
+ghost use Rattle.mairix_run.specs.WholeRuns.{WritesWork};
 ghost use Rattle.mairix_tool.specs.Asked.{asks};
 ghost use Rattle.named_archives.specs.Names.{files_of};
 ghost use Rattle.named_archives.specs.Progress.{CannotRead};
 ghost use Rattle.named_archives.specs.States.{AreStatesOf};
-ghost use Rattle.named_files.specs.Crashes.{LeavesOnly};
-ghost use Rattle.named_files.specs.Entries.{SameWhere, bytes_of};
+ghost use Rattle.named_files.specs.Entries.{bytes_of};
 ghost use Rattle.named_files.specs.Reported.{AddsReports};
 
 use crate::asked::Asked;

@@ -3,32 +3,21 @@ use Rattle.std.proofs.Common.{◌≡◌, ◌∙◌, ◌⊎◌, ◌+◌, inr, sym
 use Rattle.std.specs.Option.{option_map_or}
 use Rattle.named_archives.specs.Names.{files_of}
 use Rattle.named_archives.specs.Progress.{CannotRead}
-use Rattle.mairix_run.proofs.MadeRuns.{all-after, files-same, fit-same, made-settled, none-made, same-replaced}
-use Rattle.mairix_run.proofs.MakingRuns.{kept-found}
-use Rattle.mairix_run.proofs.NamesUsed.{contains-first}
+use Rattle.mairix_run.proofs.MadeRuns.{all-after, files-same, fit-same, kept-replaced, made-settled, none-made}
 use Rattle.mairix_run.proofs.Written.{once-failed, written-weaker}
 use Rattle.mairix_run.specs.Inside.RunParts.{ReplacesFile}
 use Rattle.mairix_run.specs.ReadFiles.{names_read}
-use Rattle.mairix_run.specs.Stops.{ending_of_stopped}
-use Rattle.mairix_run.specs.WholeRuns.{IsWritten, Puts, temporary_of}
+use Rattle.mairix_run.specs.WholeRuns.{IsWritten}
 use Rattle.mairix_run.proofs.replacement.replace_file.Goals as goal
 
 -- ---- it isn't made
 
 pub returns-in-Err-clause-run : goal.returns-in-Err-clause-run
 returns-in-Err-clause-run g c = λ bytes files agree.
-    let F = g.F.Folder in
-    let old = c.args.files.now.folder in
-    let name = g.F.Name.FileName.text c.args.names.now.name in
-    let read = names_read g.F.Name.FileName.text c.args.read.now in
-    let work = g.C.Content.work c.args.content.now bytes in
-    same-replaced F old read name (g.F.Folder.agree c.args.files.now.reads ≡ true) work (g.met.F.Folder.only_now old)
-    (ending_of_stopped c.in-Err.stopped)
-    (kept-found (F.holds old) (F.apart old) (F.is_leftover old) work read name
-    (name ∷ temporary_of name ∷ []) F.can_refuse F.reads_can_fail (λ e. F.agree c.args.files.now.reads ≡ true
-    → Puts (F.can_refuse ⊎ F.writes_can_fail) (CannotRead F.can_refuse F.reads_can_fail) work (F.holds old name) e)
-    (contains-first name (temporary_of name ∷ []))
-    c.in-Err.stopped (c.in-Err.ensures.stopped bytes agree))
+    let text = g.F.Name.FileName.text in
+    kept-replaced g.F.Folder c.args.files.now.folder (names_read text c.args.read.now) (text c.args.names.now.name)
+    (g.F.Folder.agree c.args.files.now.reads ≡ true) (g.C.Content.work c.args.content.now bytes)
+    (g.met.F.Folder.only_now c.args.files.now.folder) c.in-Err.stopped (c.in-Err.ensures.stopped bytes agree)
 
 pub returns-in-Err-create_file-clause-run : goal.returns-in-Err-create_file-clause-run
 returns-in-Err-create_file-clause-run g c = λ bytes files agree.
