@@ -5,7 +5,7 @@ pub use Rattle.std.proofs.Math.Nat.{add-mul, mul-le-mul_right, mul_assoc, pow-su
 pub use Rattle.std.proofs.Math.Path.{transport}
 pub use Rattle.std.proofs.Math.Seq.{drop-append_seam, drop-cons, get_or-append_seam, take-append_seam, take-length}
 pub use Rattle.std.proofs.lemmas.Bool.{false≢true, leb-true}
-pub use Rattle.std.proofs.lemmas.Bool.Decides.{Decides-eqb, Decides-like, nat_tests, same_from_decides}
+pub use Rattle.std.proofs.lemmas.Bool.Decides.{Decides-eqb, nat_tests, same_from_decides}
 pub use Rattle.std.proofs.lemmas.Cmp.{nat_list_cmp_total, ranked}
 pub use Rattle.std.proofs.lemmas.Grind.{common_steps, flat_map-append}
 pub use Rattle.std.proofs.lemmas.Int.{of_z-to_z, to_z-of_z}
@@ -19,7 +19,7 @@ pub use Rattle.std.proofs.lemmas.Slice.Eq.{bytes_eq-Decides, slice_eq-Decides}
 pub use Rattle.std.specs.Cmp.{nat_cmp_is}
 pub use Rattle.std.specs.Cmp.Lexicographic.{slice_cmp}
 pub use Rattle.std.specs.Global.{Global}
-pub use Rattle.std.specs.Int.{cast_signed, cast_unsigned, from_be_bytes, w32, w64}
+pub use Rattle.std.specs.Int.{cast_signed, from_be_bytes, w64}
 pub use Rattle.std.specs.Io.KnownBytes.{Appends}
 pub use Rattle.std.specs.List.{AllByRecursion, concat, filter, insert, starts_with}
 unfoldable pub use Rattle.std.specs.List.Sorted.{IsStrictlySortedBy}

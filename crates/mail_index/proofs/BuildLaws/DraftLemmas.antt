@@ -64,8 +64,7 @@ listed-weaker count more h = grind (arith, all-weaker, newest)
 pub end_from-below : (count low : ℕ) (ns : List ℕ) → low ≤ count → AllByRecursion (λ n. n < count) ns
     → end_from low ns ≤ count
 end_from-below _ _ [] h _ = h
-end_from-below count _ (n ∷ ns) h all = let next : suc n ≤ count = omega arith
-    in end_from-below count (suc n) ns next all.1
+end_from-below count _ (n ∷ ns) h all = end_from-below count (suc n) ns (omega arith) all.1
 
 length-postings_from : (low : ℕ) (ns : List ℕ) → RisesFrom low ns
     → length (postings_from low ns) + low ≤ end_from low ns

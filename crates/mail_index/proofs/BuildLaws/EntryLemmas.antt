@@ -101,8 +101,7 @@ new-whole : (kind : Kind) (text kept bytes recent : List ℕ) (n : ℕ) → Hold
 new-whole _ text kept bytes recent n holds e =
     key_bytes-more kept (length text + 1) bytes [] bytes recent recent
     (ap (λ (l : List ℕ). l ++ recent) (sym (append-nil _)))
-    ∙ ap₂ (λ (a b : List ℕ). a ++ b) holds.whole
-    (e ∙ ap (leb128 5) (let same : n + 1 ≡ n + 1 - 0 = omega arith in same))
+    ∙ ap₂ (λ (a b : List ℕ). a ++ b) holds.whole (e ∙ ap (leb128 5) ((omega arith)))
 
 pub entry-new : (kind : Kind) (text kept bytes recent : List ℕ) (n : ℕ) → HoldsFront kind text kept bytes → recent
     ≡ leb128 5 (n + 1) → n + 1 < 2 ^ 32

@@ -159,8 +159,8 @@ pub fronted-found : (entries : List Key) (i n : ℕ) (slots : List Fronted) → 
     → AllByRecursion (IsFronted entries) slots
     → AllByRecursion (IsFronted (set entries i (with_one (key_at entries i) n))) slots
 fronted-found entries i n slots lt all =
-    let k = with_one (key_at entries i) n in
-    fronted-kept _ _ (omega (arith, length-set entries i k)) (λ j h. same j (nat_eq j i) refl) _ all
+    fronted-kept _ _ (omega (arith, length-set entries i (with_one (key_at entries i) n)))
+    (λ j h. same j (nat_eq j i) refl) _ all
   where
     same : (j : ℕ) → (t : Bool) → nat_eq j i ≡ t
         → IsSameKey (key_at entries j) (key_at (set entries i (with_one (key_at entries i) n)) j)

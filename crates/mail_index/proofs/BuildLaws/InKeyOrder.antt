@@ -35,11 +35,9 @@ commute kind text n e other [] = go (comp (bytes_of kind text) (key_bytes e)) re
   where
     go : (o : Ordering) → comp (bytes_of kind text) (key_bytes e) ≡ o
         → with_pair kind text n (e ∷ []) ≡ with_key e (new_key kind text n ∷ [])
-    go Less h = ap (pair_step kind text n e []) h
-        ∙ sym (ap (key_step e (new_key kind text n) []) (turned (bytes_of kind text) (key_bytes e) _ h))
+    go Less h = cc (turned (bytes_of kind text) (key_bytes e) _ h)
     go Equal h = absurd (other h)
-    go Greater h = ap (pair_step kind text n e []) h
-        ∙ sym (ap (key_step e (new_key kind text n) []) (turned (bytes_of kind text) (key_bytes e) _ h))
+    go Greater h = cc (turned (bytes_of kind text) (key_bytes e) _ h)
 commute kind text n e other (j ∷ js) =
     go (comp w (key_bytes e)) refl (comp (key_bytes e) (key_bytes j)) refl (comp w (key_bytes j)) refl
     (commute kind text n e other js)
@@ -52,8 +50,7 @@ commute kind text n e other (j ∷ js) =
 
     before_all : (o : Ordering) → comp w (key_bytes e) ≡ o → o ≡ Less → (ks : List Key) (h : Ordering)
         → comp (key_bytes e) (key_bytes j) ≡ h → with_key e (new ∷ j ∷ js) ≡ new ∷ key_step e j js h
-    before_all o f less _ h g = ap (key_step e new (j ∷ js)) (turned w (key_bytes e) Less (f ∙ less))
-        ∙ ap (λ l. new ∷ l) (ap (key_step e j js) g)
+    before_all o f less _ h g = cc (turned w (key_bytes e) Less (f ∙ less))
 
     go : (o : Ordering) → comp w (key_bytes e) ≡ o → (p : Ordering) → comp (key_bytes e) (key_bytes j) ≡ p
         → (q : Ordering) → comp w (key_bytes j) ≡ q
@@ -67,10 +64,9 @@ commute kind text n e other (j ∷ js) =
             → with_pair kind text n (with_key e js) ≡ with_key e (with_pair kind text n js)
             → with_pair kind text n (key_step e j js p) ≡ with_key e (pair_step kind text n j js q)
         at Equal f p g q h _ = absurd (other f)
-        at Less f Less g q h _ =
-            let less = sym h ∙ nat_list_cmp_total.trans w (key_bytes e) (key_bytes j) f g in
-            ap (pair_step kind text n e (j ∷ js)) f
-            ∙ sym (ap (λ o. with_key e (pair_step kind text n j js o)) less ∙ before_all _ f refl js _ g)
+        at Less f Less g q h _ = ap (pair_step kind text n e (j ∷ js)) f
+            ∙ sym (ap (λ o. with_key e (pair_step kind text n j js o))
+            (sym h ∙ nat_list_cmp_total.trans w (key_bytes e) (key_bytes j) f g) ∙ before_all _ f refl js _ g)
         at Less f Equal g q h _ =
             let less = sym h ∙ nat_list_cmp_total.antisymm w (key_bytes j)
             ∙ ap ordering_reverse (sym (nat_list_cmp_total.congr (key_bytes e) (key_bytes j) w g)
@@ -78,62 +74,50 @@ commute kind text n e other (j ∷ js) =
             ap (pair_step kind text n e (j ∷ js)) f
             ∙ sym (ap (λ o. with_key e (pair_step kind text n j js o)) less ∙ before_all _ f refl js _ g)
         at Less f Greater g Less h _ = ap (pair_step kind text n j (with_key e js)) h ∙ sym (before_all _ f refl js _ g)
-        at Less f Greater g Equal h _ =
-            ap (pair_step kind text n j (with_key e js)) h ∙ sym (ap (key_step e (with_one j n) js) g)
-        at Less f Greater g Greater h rest = ap (pair_step kind text n j (with_key e js)) h ∙ ap (λ l. j ∷ l) rest
-            ∙ sym (ap (key_step e j (with_pair kind text n js)) g)
+        at Less f Greater g Equal h _ = cc
+        at Less f Greater g Greater h rest = cc
         at Greater f Less g q h _ = ap (pair_step kind text n e (j ∷ js)) f ∙ first q h
           where
             first : (q : Ordering) → comp w (key_bytes j) ≡ q
                 → e ∷ with_pair kind text n (j ∷ js) ≡ with_key e (pair_step kind text n j js q)
-            first Less h = ap (λ l. e ∷ l) (ap (pair_step kind text n j js) h)
-                ∙ sym (ap (key_step e new (j ∷ js)) (turned w (key_bytes e) Greater f))
-            first Equal h = ap (λ l. e ∷ l) (ap (pair_step kind text n j js) h)
-                ∙ sym (ap (key_step e (with_one j n) js) g)
-            first Greater h = ap (λ l. e ∷ l) (ap (pair_step kind text n j js) h)
-                ∙ sym (ap (key_step e j (with_pair kind text n js)) g)
+            first Less h = cc (turned w (key_bytes e) Greater f)
+            first Equal h = cc
+            first Greater h = cc
         at Greater f Equal g q h _ = ap (pair_step kind text n e (j ∷ js)) f ∙ first q h
           where
             first : (q : Ordering) → comp w (key_bytes j) ≡ q
                 → e ∷ with_pair kind text n (j ∷ js) ≡ with_key e (pair_step kind text n j js q)
-            first Less h = ap (λ l. e ∷ l) (ap (pair_step kind text n j js) h)
-                ∙ sym (ap (key_step e new (j ∷ js)) (turned w (key_bytes e) Greater f))
-            first Equal h = ap (λ l. e ∷ l) (ap (pair_step kind text n j js) h)
-                ∙ sym (ap (key_step e (with_one j n) js) g)
-            first Greater h = ap (λ l. e ∷ l) (ap (pair_step kind text n j js) h)
-                ∙ sym (ap (key_step e j (with_pair kind text n js)) g)
+            first Less h = cc (turned w (key_bytes e) Greater f)
+            first Equal h = cc
+            first Greater h = cc
         at Greater f Greater g Less h rest = absurd
             (none (nat_list_cmp_total.trans w (key_bytes j) (key_bytes e) h
             (turned (key_bytes e) (key_bytes j) Greater g)))
           where
             none : comp w (key_bytes e) ≡ Less → ⊥
             none less = absurd cc
-        at Greater f Greater g Equal h _ =
-            ap (pair_step kind text n j (with_key e js)) h ∙ sym (ap (key_step e (with_one j n) js) g)
-        at Greater f Greater g Greater h rest = ap (pair_step kind text n j (with_key e js)) h ∙ ap (λ l. j ∷ l) rest
-            ∙ sym (ap (key_step e j (with_pair kind text n js)) g)
+        at Greater f Greater g Equal h _ = cc
+        at Greater f Greater g Greater h rest = cc
 
 -- a pair of the key itself is one more number of it
 same_key : (kind : Kind) (text : List ℕ) (n : ℕ) (k : Key) → comp (bytes_of kind text) (key_bytes k) ≡ Equal
     → (ks : List Key) → with_pair kind text n (with_key k ks) ≡ with_key (with_one k n) ks
 unfolding with_key
 same_key kind text n k same [] = ap (pair_step kind text n k []) same
-same_key kind text n k same (j ∷ js) =
-    go (comp (key_bytes k) (key_bytes j)) refl (same_key kind text n k same js)
+same_key kind text n k same (j ∷ js) = go (comp (key_bytes k) (key_bytes j)) refl (same_key kind text n k same js)
   where
     go : (p : Ordering) → comp (key_bytes k) (key_bytes j) ≡ p
         → with_pair kind text n (with_key k js) ≡ with_key (with_one k n) js
         → with_pair kind text n (with_key k (j ∷ js)) ≡ with_key (with_one k n) (j ∷ js)
-    go p g rest = ap (with_pair kind text n) (ap (key_step k j js) g)
-        ∙ at p g ∙ sym (ap (key_step (with_one k n) j js) g)
+    go p g rest = ap (with_pair kind text n) (ap (key_step k j js) g) ∙ at p g
+        ∙ sym (ap (key_step (with_one k n) j js) g)
       where
         at : (p : Ordering) → comp (key_bytes k) (key_bytes j) ≡ p
             → with_pair kind text n (key_step k j js p) ≡ key_step (with_one k n) j js p
-        at Less g = ap (pair_step kind text n k (j ∷ js)) same
-        at Equal g = ap (pair_step kind text n k (j ∷ js)) same
+        at Less g = cc
+        at Equal g = cc
         at Greater g = ap (pair_step kind text n j (with_key k js))
-            (nat_list_cmp_total.congr (bytes_of kind text) (key_bytes k) (key_bytes j) same ∙ g)
-            ∙ ap (λ l. j ∷ l) rest
+            (nat_list_cmp_total.congr (bytes_of kind text) (key_bytes k) (key_bytes j) same ∙ g) ∙ ap (λ l. j ∷ l) rest
 
 -- ---- the entries
 
@@ -163,13 +147,7 @@ in_key_order-found kind text n (e ∷ es) (suc i) low same only =
 length-with_key : (k : Key) (ks : List Key) → length (with_key k ks) ≡ suc (length ks)
 unfolding with_key
 length-with_key k [] = refl
-length-with_key k (j ∷ js) = go _ (length-with_key k js)
-  where
-    go : (o : Ordering) → length (with_key k js) ≡ suc (length js)
-        → length (key_step k j js o) ≡ suc (suc (length js))
-    go Less _ = refl
-    go Equal _ = refl
-    go Greater rest = ap suc rest
+length-with_key k (j ∷ js) = grind (arith, length-with_key k js)
 
 pub length-in_key_order : (entries : List Key) → length (in_key_order entries) ≡ length entries
 unfolding in_key_order
@@ -182,13 +160,7 @@ all-with_key : (P : List ℕ → Type 0) (k : Key) (ks : List Key) → AllByRecu
     → P (key_bytes k) → AllByRecursion P (map key_bytes (with_key k ks))
 unfolding with_key
 all-with_key P k [] _ new = (new, tt)
-all-with_key P k (j ∷ js) all new = go _ (all-with_key P k js all.1 new)
-  where
-    go : (o : Ordering) → AllByRecursion P (map key_bytes (with_key k js))
-        → AllByRecursion P (map key_bytes (key_step k j js o))
-    go Less _ = (new, all)
-    go Equal _ = (new, all)
-    go Greater rest = (all.0, rest)
+all-with_key P k (j ∷ js) all new = grind (arith, all-with_key P k js all.1 new)
 
 all-in_key_order : (P : List ℕ → Type 0) (entries : List Key) → AllByRecursion P (map key_bytes entries)
     → AllByRecursion P (map key_bytes (in_key_order entries))
@@ -298,7 +270,7 @@ record Numbered (z : Key) (entries : List Key) : Type 0 where
 number-of : (z : Key) (entries : List Key) → IsMember z entries → Numbered z entries
 number-of z [] is = absurd is
 number-of z (e ∷ es) is = elim is [
-  | inl same ↦ record { number = 0; within = omega arith; is = same }
+  | inl same ↦ grind arith
   | inr there ↦ let found = number-of z es there
       in record { number = suc found.number; within = omega arith; is = found.is }
 ]
@@ -328,12 +300,7 @@ beyond xs z (k ∷ ks) all is = elim is [
 ]
 
 never_less : (xs : List ℕ) → comp xs xs ≡ Less → ⊥
-never_less xs less = go _ less (nat_list_cmp_total.antisymm xs xs)
-  where
-    go : (o : Ordering) → o ≡ Less → o ≡ ordering_reverse o → ⊥
-    go Less e r = absurd cc
-    go Equal e r = absurd cc
-    go Greater e r = absurd cc
+never_less xs less = grind (arith, nat_list_cmp_total.antisymm)
 
 -- sorted lists of the same keys are the same
 same-sorted : (xs ys : List Key) → AreSorted xs → AreSorted ys → ((z : Key) → IsMember z xs → IsMember z ys)
@@ -368,5 +335,4 @@ pub in_key_order-by : (entries : List Key) (order : List ℕ) → AreDistinct en
 in_key_order-by entries order distinct is whole =
     same-sorted _ _ is.sorted (sorted-in_key_order _ distinct)
     (λ z is_in. to-in_key_order z _ (of-numbers z _ _ is.within is_in))
-    (λ z is_in. let found = number-of z _ (from-in_key_order z _ is_in)
-    in rw (← found.is) (by_number _ _ _ (whole found.number found.within)))
+    (λ z is_in. let found = number-of z _ (from-in_key_order z _ is_in) in grind (arith, by_number))

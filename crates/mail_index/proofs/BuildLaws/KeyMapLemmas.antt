@@ -62,19 +62,19 @@ gap-in_pages kind text entries pages heads page at b h outer inner = record {
         → lies_to kind text (key_at (slot_keys entries (in_pages pages heads)) j) ≡ Less
     below (suc a) p j ea ep e =
         let step = position-step pages page a in
-        let place : j ≡ position pages page a = omega (arith, e ∙ ap (position pages page) ea) in
         let low : a < length (get_or pages page []) = omega (arith, inside) in
-        let there = ap (λ (i : ℕ). get_or (in_pages pages heads) i no_slot) place ∙ at-page _ _ _ a no_slot b h low in
-        let lt : j < length (in_pages pages heads) = omega (arith, e, position-within _ _ _ _ b h inside) in
-        ap (lies_to kind text) (same-key j a _ lt low there) ∙ inner.below a (sym ea)
+        let there = ap (λ (i : ℕ). get_or (in_pages pages heads) i no_slot)
+        (omega (arith, e ∙ ap (position pages page) ea)) ∙ at-page _ _ _ a no_slot b h low in
+        ap (lies_to kind text) (same-key j a _ (omega (arith, e, position-within _ _ _ _ b h inside)) low there)
+        ∙ inner.below a (sym ea)
     below zero (suc p) j ea ep e =
         let more : suc p < length pages = omega arith in
         let step = position-next _ p more in
-        let place : j ≡ position pages p (length (get_or pages p [])) = omega (arith, e ∙ ap₂ (position pages) ep ea) in
         let low : p < length heads = omega arith in
-        let there = ap (λ (i : ℕ). get_or (in_pages pages heads) i no_slot) place ∙ at-head _ _ p no_slot b low in
-        let lt : j < length (in_pages pages heads) = omega (arith, e, position-within _ _ _ _ b h inside) in
-        ap (lies_to kind text) (same-key j p _ lt low there) ∙ outer.below p (sym ep)
+        let there = ap (λ (i : ℕ). get_or (in_pages pages heads) i no_slot)
+        (omega (arith, e ∙ ap₂ (position pages) ep ea)) ∙ at-head _ _ p no_slot b low in
+        ap (lies_to kind text) (same-key j p _ (omega (arith, e, position-within _ _ _ _ b h inside)) low there)
+        ∙ outer.below p (sym ep)
     below zero zero j ea ep e = absurd (omega (arith, e ∙ ap₂ (position pages) ep ea, first _ h))
       where
         first : (ps : List (List Fronted)) → page < length ps → position ps 0 0 ≡ 0
@@ -86,22 +86,19 @@ gap-in_pages kind text entries pages heads page at b h outer inner = record {
         → lies_to kind text (key_at (slot_keys entries (in_pages pages heads)) (position pages page at)) ≡ Greater
     above lt true et u eu =
         let low : at < length (get_or pages page []) = grind (arith, nat_tests) in
-        let far : position pages page at < length (in_pages pages heads) = omega (arith, slots-long) in
-        ap (lies_to kind text) (same-key _ _ _ far low (at-page _ _ _ _ _ b h low))
+        ap (lies_to kind text) (same-key _ _ _ (omega (arith, slots-long)) low (at-page _ _ _ _ _ b h low))
         ∙ inner.above (omega (arith, slots-long))
     above lt false et true eu =
         let high : length (get_or pages page []) ≤ at = grind (arith, nat_tests) in
-        let end : at ≡ length (get_or pages page []) = omega (arith, inside) in
         let low : page < length heads = grind (arith, nat_tests) in
-        let far : position pages page at < length (in_pages pages heads) = omega (arith, slots-long) in
-        let there = ap (λ (i : ℕ). get_or (in_pages pages heads) (position pages page i) no_slot) end
-        ∙ at-head _ _ _ no_slot b low in
-        ap (lies_to kind text) (same-key _ _ _ far low there) ∙ outer.above (omega (arith, slots-long))
+        let there = ap (λ (i : ℕ). get_or (in_pages pages heads) (position pages page i) no_slot)
+        (omega (arith, inside)) ∙ at-head _ _ _ no_slot b low in
+        ap (lies_to kind text) (same-key _ _ _ (omega (arith, slots-long)) low there)
+        ∙ outer.above (omega (arith, slots-long))
     above lt false et false eu =
         let high : length (get_or pages page []) ≤ at = grind (arith, nat_tests) in
         let end : at ≡ length (get_or pages page []) = omega (arith, inside) in
-        let last : length heads ≤ page = grind (arith, nat_tests) in
-        let all = ap (position pages page) end ∙ position-last _ _ _ b h last in
+        let all = ap (position pages page) end ∙ position-last _ _ _ b h (grind (arith, nat_tests)) in
         absurd (omega (arith, slots-long))
 
 pub gap-found : (kind : Kind) (text : List ℕ) (entries : List Key) (pages : List (Vec Fronted Global))

@@ -93,9 +93,8 @@ at-head [] _ _ d b h = absurd (omega arith)
 at-head (row ∷ rest) [] _ d b h = absurd (omega arith)
 at-head (row ∷ rest) (head ∷ heads) zero d b h = get_or-append_seam row _ (in_pages rest heads) d
 at-head (row ∷ rest) (head ∷ heads) (suc page) d b h =
-    let few : length heads ≡ length rest - 1 = omega arith in
     get_or-after row head (in_pages rest heads) (position rest page (length (get_or rest page []))) d
-    ∙ at-head rest heads page d few (omega arith)
+    ∙ at-head rest heads page d (omega arith) (omega arith)
 
 -- ---- properties of all slots
 

@@ -39,10 +39,9 @@ end_from-rises _ (x ∷ ns) r = omega (arith, end_from-rises (suc x) ns r.1)
 -- the number just before the end is in the list
 is_in-last : (low : ℕ) (ns : List ℕ) (n : ℕ) → RisesFrom low ns → end_from low ns ≡ suc n → low ≤ n → IsIn ns n
 is_in-last _ [] n r e h = absurd (omega arith)
-is_in-last _ (x ∷ []) n r e h = let same : x ≡ n = omega arith in inl same
+is_in-last _ (x ∷ []) n r e h = inl (omega arith)
 is_in-last _ (x ∷ y ∷ ns) n r e h =
-    let after : suc x ≤ n = omega (arith, r.1.0, end_from-rises _ _ r.1.1) in
-    inr (is_in-last (suc x) (y ∷ ns) n r.1 e after)
+    inr (is_in-last (suc x) (y ∷ ns) n r.1 e (omega (arith, r.1.0, end_from-rises _ _ r.1.1)))
 
 pub with_number-tells : (ns : List ℕ) (n m : ℕ) → IsIn (with_number ns n) m → IsIn ns m ⊎ (n ≡ m)
 with_number-tells ns n m = by-number (λ xs. IsIn xs m → IsIn ns m ⊎ (n ≡ m)) ns n (λ h. inl h)
@@ -58,8 +57,7 @@ with_number-has ns n r below = (elim (nat_lt n (end_from 0 ns)) as
     (λ v. nat_lt n (end_from 0 ns) ≡ v → IsIn (if v then ns else ns ++ n ∷ []) n) [
       | true ↦ λ e.
           let low : n < end_from 0 ns = grind (arith, nat_tests) in
-          let end : end_from 0 ns ≡ suc n = omega (arith, end_from-below _ 0 _ (omega arith) below) in
-          is_in-last 0 _ n r end (omega arith)
+          is_in-last 0 _ n r (omega (arith, end_from-below _ 0 _ (omega arith) below)) (omega arith)
       | false ↦ λ _. is_in-end _ n
     ]) refl
 

@@ -7,8 +7,7 @@ archive_length-before : (archives : List Archive) (a : Archive) (n : ℕ) → n 
     → archive_length (archives ++ a ∷ []) n ≡ archive_length archives n
 archive_length-before [] a n h = absurd (omega arith)
 archive_length-before (x ∷ archives) a zero h = refl
-archive_length-before (x ∷ archives) a (suc n) h = let low : n < length archives = omega arith
-    in archive_length-before archives a n low
+archive_length-before (x ∷ archives) a (suc n) h = archive_length-before archives a n (omega arith)
 
 archive_length-last : (archives : List Archive) (a : Archive) → archive_length (archives ++ a ∷ []) (length archives)
     ≡ a.length
@@ -124,11 +123,6 @@ pub message-ended_draft : (d : Draft) (r : Record) → IsDraft d → d.failed �
 message-ended_draft d r is kept opened next date =
     let inside = opened kept in
     let low = rw (← next.archive) at (archives-low_open d.table.archives d.path d.table.messages is.placed) in
-    let after = rw (← next.archive) at next.after in
-    let room = is.open_message inside.1 in
-    let listed = rw inside.1 at is.listed in
-    let count : suc (length d.table.messages) ≤ length (d.table.messages ++ r ∷ []) =
-    omega (arith, length-append d.table.messages (r ∷ [])) in
     grind (arith, length-append, all-snoc, with_open, message-open, in_order-next, listed-weaker, length)
 
 pub archive-ended_draft : (d : Draft) (p : List ℕ) (n : ℕ) (h : List ℕ) → IsDraft d → d.failed ≡ false → d.path ≡ Some p

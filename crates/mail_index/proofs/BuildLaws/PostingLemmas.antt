@@ -1,6 +1,6 @@
 -- One more number is one more difference, and the bytes give the numbers back: by the weights of their groups of seven
 -- bits.
-use Rattle.mail_index.proofs.Words.{◌≡◌, ℕ, zero, suc, ◌+◌, ◌-◌, ◌*◌, ◌/◌, ◌%◌, ◌^◌, ◌<◌, ◌≤◌, true, false, nat_lt, if◌then◌else◌, List, [], ◌∷◌, ◌++◌, length, fold, flat_map, refl, ap, ◌∙◌, append-nil, length-append, arith, nat_tests, fold-append, flat_map-append, add-mul, mul_assoc, pow-suc, leb128, differences_from, postings, end_from, with_number, DecodingState, state_after_numbers, state_after_byte, numbers_so_far, numbers_of, IsPosted}
+use Rattle.mail_index.proofs.Words.{◌≡◌, ℕ, zero, suc, ◌+◌, ◌-◌, ◌*◌, ◌/◌, ◌%◌, ◌^◌, ◌<◌, ◌≤◌, true, false, nat_lt, if◌then◌else◌, List, [], ◌∷◌, ◌++◌, length, fold, flat_map, refl, ap, ◌∙◌, append-nil, length-append, arith, nat_tests, fold-append, flat_map-append, add-mul, mul_assoc, leb128, differences_from, postings, end_from, with_number, DecodingState, state_after_numbers, state_after_byte, numbers_so_far, numbers_of, IsPosted}
 
 end_from-snoc : (low : ℕ) (ns : List ℕ) (n : ℕ) → end_from low (ns ++ n ∷ []) ≡ suc n
 end_from-snoc _ [] n = refl
@@ -60,9 +60,7 @@ told-step : (bytes : List ℕ) (t : DecodingState) (k : ℕ) → 128 ≤ k
           128 * t.weight;
     }) (k / 128)
     → fold state_after_byte (state_after_byte t (128 + k % 128)) bytes ≡ whole_after t k
-told-step _ t k high e =
-    let b : 128 ≤ 128 + k % 128 = omega arith in
-    cc (state_after_byte-followed t (128 + k % 128) b, weights k t.part t.weight)
+told-step _ t k high e = cc (state_after_byte-followed t (128 + k % 128) (omega arith), weights k t.part t.weight)
 
 -- the bytes of a difference give this difference
 told-leb128 : (m : ℕ) (t : DecodingState) (k : ℕ) → k < 128 ^ suc m → fold state_after_byte t (leb128 (suc m) k)
@@ -71,12 +69,9 @@ told-leb128 zero t k h = grind (arith, state_after_byte-last)
 told-leb128 (suc m) t k h = (elim (nat_lt k 128) as
     (λ v. nat_lt k 128 ≡ v → fold state_after_byte t (if v then k ∷ [] else (128 + k % 128) ∷ leb128 (suc m) (k / 128))
     ≡ whole_after t k) [
-      | true ↦ λ e. let low : k < 128 = grind (arith, nat_tests) in state_after_byte-last t k low
-      | false ↦ λ e.
-          let high : 128 ≤ k = grind (arith, nat_tests) in
-          let power = pow-suc 128 (suc m) in
-          let rest : k / 128 < 128 ^ suc m = omega arith in
-          told-step (leb128 (suc m) (k / 128)) t k high (told-leb128 m _ (k / 128) rest)
+      | true ↦ λ e. state_after_byte-last t k (grind (arith, nat_tests))
+      | false ↦ λ e. told-step (leb128 (suc m) (k / 128)) t k (grind (arith, nat_tests))
+          (told-leb128 m _ (k / 128) (omega arith))
     ]) refl
 
 pub length-leb128 : (m k : ℕ) → 0 < k → length (leb128 m k) ≤ k
@@ -86,8 +81,7 @@ length-leb128 (suc m) k h = (elim (nat_lt k 128) as
       | true ↦ λ e. omega arith
       | false ↦ λ e.
           let high : 128 ≤ k = grind (arith, nat_tests) in
-          let part : 0 < k / 128 = omega arith in
-          omega (arith, length-leb128 m (k / 128) part)
+          omega (arith, length-leb128 m (k / 128) (omega arith))
     ]) refl
 
 -- no bytes
@@ -103,12 +97,11 @@ numbers_of-nil = refl
 told-more : (bytes : List ℕ) (next n : ℕ) → IsPosted bytes next → next ≤ n → n + 1 < 2 ^ 32
     → numbers_so_far (bytes ++ leb128 5 (n + 1 - next)) ≡ state_after_numbers (numbers_of bytes ++ n ∷ []) (n + 1)
 told-more bytes next n p low high =
-    let gap : n + 1 - next < 128 ^ 5 = omega arith in
     let number : next + (0 + (n + 1 - next) * 1) - 1 ≡ n = omega arith in
     let end : next + (0 + (n + 1 - next) * 1) ≡ n + 1 = omega arith in
     cc (
       fold-append state_after_byte (state_after_numbers [] 0) bytes (leb128 5 (n + 1 - next)),
-      told-leb128 4 (state_after_numbers (numbers_of bytes) next) (n + 1 - next) gap,
+      told-leb128 4 (state_after_numbers (numbers_of bytes) next) (n + 1 - next) (omega arith),
     )
 
 pub numbers_of-more : (bytes : List ℕ) (next n : ℕ) → IsPosted bytes next → next ≤ n → n + 1 < 2 ^ 32

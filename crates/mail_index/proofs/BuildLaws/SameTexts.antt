@@ -10,8 +10,6 @@ after-first n l low high = grind (arith, drop-drop)
 pub same-by-ends : (n : ℕ) (a b : List ℕ) → length a ≡ length b → n ≤ length a → length a ≤ n + n
     → take n a ≡ take n b → drop (length a - n) a ≡ drop (length b - n) b → a ≡ b
 same-by-ends n a b same low high first last =
-    let low' : n ≤ length b = omega arith in
-    let high' : length b ≤ n + n = omega arith in
     let after = sym (after-first n a low high) ∙ ap₂ (λ (k : ℕ) (l : List ℕ). drop (n - (k - n)) l) same last
-    ∙ after-first n b low' high' in
+    ∙ after-first n b (omega arith) (omega arith) in
     cc (take-append-drop n b, take-append-drop n a)

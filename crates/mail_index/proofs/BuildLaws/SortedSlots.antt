@@ -150,15 +150,13 @@ rising entries slots i j less low distinct fronted once sorted = go _ refl
         let turned =
         nat_list_cmp_total.antisymm (key_bytes (key_at entries other.number)) (key_bytes (key_at entries one.number))
         ∙ ap ordering_reverse e in
-        let number = distinct one.number other.number is_one.within is_other.within turned in
-        let same = once i j (omega arith) low number in
+        let same = once i j (omega arith) low (distinct one.number other.number is_one.within is_other.within turned) in
         absurd (omega arith)
     go Greater e =
         let lower =
         nat_list_cmp_total.antisymm (key_bytes (key_at entries other.number)) (key_bytes (key_at entries one.number))
         ∙ ap ordering_reverse e in
-        let first = before lower (nat_cmp other.front one.front) refl in
-        let both = sym (ap is_lt first) ∙ far in
+        let both = sym (ap is_lt (before lower (nat_cmp other.front one.front) refl)) ∙ far in
         absurd cc
 
 all-by_place : (xs : List ℕ) (ks : List Key)
@@ -188,9 +186,8 @@ order-sorted entries slots distinct fronted once sorted = record {
   sorted = sorted-by_place _ (λ i j h h2.
       let long = slots-long entries slots in
       let low : j < length slots = omega arith in
-      let one = slot-at entries slots i no_slot (omega arith) in
-      let other = slot-at entries _ j no_slot low in
-      rw one (rw other (rising _ _ i j h low distinct fronted once sorted)));
+      rw (slot-at entries slots i no_slot (omega arith))
+      (rw (slot-at entries _ j no_slot low) (rising _ _ i j h low distinct fronted once sorted)));
   within = within-slots _ _ fronted;
 }
 

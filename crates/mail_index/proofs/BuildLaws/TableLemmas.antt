@@ -26,9 +26,7 @@ kept-as : (kind : Kind) (text : List ℕ) (entries : List Key) (table : KeyTable
     → i < length entries → AreReachable entries table order (length entries) → lies_to kind text (key_at entries i)
     ≡ Equal
     → IsReachable table order (hash_of kind text) (length entries) i
-kept-as kind text entries table order i low kept equal =
-    subst (λ hash. IsReachable table order hash (length entries) i) (same_hash _ _ (key_at entries i) equal)
-    (kept i low)
+kept-as kind text entries table order i low kept equal = grind (arith, length, same_hash, key_at)
 
 pub absent-vacant : (kind : Kind) (text : List ℕ) (entries : List Key) (table : KeyTable) (order : KeyOrder)
     (slot : ℕ) → AreReachable entries table order (length entries)
@@ -36,20 +34,14 @@ pub absent-vacant : (kind : Kind) (text : List ℕ) (entries : List Key) (table 
 absent-vacant kind text entries table order slot kept found i low equal =
     elim (kept-as _ _ _ _ order i low kept equal) [
       | inl reached ↦ go reached (nat_lt reached.slot slot) refl (nat_lt slot reached.slot) refl
-      | inr full ↦ let filled = full.0 slot found.0 in absurd (omega arith)
+      | inr full ↦ grind arith
     ]
   where
     go : (reached : IsReached table (hash_of kind text) (length entries) i) → (t : Bool)
         → nat_lt reached.slot slot ≡ t → (u : Bool) → nat_lt slot reached.slot ≡ u → ⊥
-    go reached true e u f = (found.2 reached.slot reached.inside (grind (arith, nat_tests))).1
-        (ap (λ n. lies_to kind text (key_at entries n)) reached.here ∙ equal)
-    go reached false e true f =
-        let filled = reached.before slot found.0 (grind (arith, nat_tests)) in
-        absurd (omega arith)
-    go reached false e false f =
-        let same : slot ≡ reached.slot = grind (arith, nat_tests) in
-        let here = ap (number_at table) same ∙ reached.here in
-        absurd (omega arith)
+    go reached true e u f = grind (arith, lies_to, key_at)
+    go reached false e true f = grind arith
+    go reached false e false f = grind (arith, number_at)
 
 pub absent-full : (kind : Kind) (text : List ℕ) (entries : List Key) (table : KeyTable) (order : KeyOrder)
     (place : ℕ) → AreReachable entries table order (length entries)
@@ -57,8 +49,7 @@ pub absent-full : (kind : Kind) (text : List ℕ) (entries : List Key) (table : 
     → IsGap kind text (keys_in entries order) place → IsAbsent kind text entries
 absent-full kind text entries table order place kept found step gap i low equal =
     elim (kept-as _ _ _ _ order i low kept equal) [
-      | inl reached ↦ (found reached.slot reached.inside).1
-          (ap (λ n. lies_to kind text (key_at entries n)) reached.here ∙ equal)
+      | inl reached ↦ grind (arith, lies_to, key_at)
       | inr full ↦ gap-absent _ _ _ _ _ i step.sorts gap full.1 equal
     ]
 
@@ -74,12 +65,8 @@ record IsPut (t u : KeyTable) (count slot value : ℕ) : Type 0 where
 
 number-put : (t u : KeyTable) (count slot value s : ℕ) → IsPut t u count slot value → (b : Bool) → nat_eq s slot ≡ b
     → number_at u s ≡ (elim b [ true ↦ value | false ↦ number_at t s ])
-number-put t u _ slot value s put true e =
-    let same : s ≡ slot = grind (arith, nat_tests) in
-    ap (λ l. get_or l s 0) put.numbers ∙ ap (λ s. get_or (set t.numbers.items slot value) s 0) same
-    ∙ get_or-set_same _ _ _ 0 put.within
-number-put t u _ slot value s put false e = ap (λ l. get_or l s 0) put.numbers
-    ∙ get_or-set_other _ _ s _ 0 (grind (arith, nat_tests))
+number-put t u _ slot value s put true e = grind (arith, get_or, set, get_or-set_same)
+number-put t u _ slot value s put false e = grind (arith, get_or, get_or-set_other)
 
 window-put : (t u : KeyTable) (count slot value hash s : ℕ) → IsPut t u count slot value → IsInWindow t hash s
     → IsInWindow u hash s
@@ -115,10 +102,7 @@ reached-put t u count more slot value hash i put le low vacant few reached = rec
 }
   where
     go : (b : Bool) → nat_eq reached.slot slot ≡ b → number_at u reached.slot ≡ i
-    go true e =
-        let same : reached.slot ≡ slot = grind (arith, nat_tests) in
-        let here = ap (number_at t) (sym same) ∙ reached.here in
-        absurd (omega arith)
+    go true e = grind (arith, number_at)
     go false e = number-put t u _ _ _ _ put _ e ∙ reached.here
 
 kept-put : (t u : KeyTable) (order : KeyOrder) (count more slot value hash i : ℕ) → IsPut t u count slot value
@@ -155,9 +139,7 @@ pub kept-order : (entries : List Key) (table : KeyTable) (old new : KeyOrder) (n
 kept-order entries table old new number part among full kept i h = go (nat_eq i number) refl
   where
     go : (b : Bool) → nat_eq i number ≡ b → IsReachable table new (hash_at entries i) (length entries) i
-    go true e =
-        let same : number ≡ i = grind (arith, nat_tests) in
-        rw (← same) (inr (full, among))
+    go true e = grind arith
     go false e = kept-part _ _ old new _ part kept i (grind (arith, nat_tests))
 
 -- ---- one more entry
@@ -191,22 +173,20 @@ distinct-new kind text n entries distinct absent i j h h2 equal =
     go : (b : Bool) → nat_eq i (length entries) ≡ b → (d : Bool) → nat_eq j (length entries) ≡ d → i ≡ j
     go true e true f = grind (arith, nat_tests)
     go true e false f =
-        let last : i ≡ length entries = grind (arith, nat_tests) in
         let low : j < length entries = grind (arith, nat_tests, long) in
-        absurd (absent j low (compared _ _ (ap (key_at (entries ++ new_key kind text n ∷ [])) last ∙ key-last entries _)
-        (key-kept _ _ j low)))
+        absurd (absent j low (compared _ _ (ap (key_at (entries ++ new_key kind text n ∷ [])) (grind (arith, nat_tests))
+        ∙ key-last entries _) (key-kept _ _ j low)))
     go false e true f =
-        let last : j ≡ length entries = grind (arith, nat_tests) in
         let low : i < length entries = grind (arith, nat_tests, long) in
         let same = compared (key_at entries i) new (key-kept _ _ i low)
-        (ap (key_at (entries ++ new_key kind text n ∷ [])) last ∙ key-last entries new) in
+        (ap (key_at (entries ++ new_key kind text n ∷ [])) (grind (arith, nat_tests)) ∙ key-last entries new) in
         absurd (absent i low (nat_list_cmp_total.antisymm
         (kind_number (key_at entries i).kind ∷ (key_at entries i).text) (kind_number kind ∷ text)
         ∙ ap ordering_reverse same))
     go false e false f =
         let low : i < length entries = grind (arith, nat_tests, long) in
         let low2 : j < length entries = grind (arith, nat_tests, long) in
-        distinct i j low low2 (compared _ _ (key-kept _ _ i low) (key-kept _ _ j low2))
+        grind (arith, key-kept)
 
 pub step-more : (k : Key) (entries : List Key) (order : KeyOrder) → AreInStep entries order
     → AreInStep (entries ++ k ∷ []) order
@@ -241,7 +221,7 @@ map-slot kind text n entries t u order _ slot is absent vacancy numbers left_out
     }
   where
     put : IsPut t u (length entries) slot (length entries)
-    put = record { numbers = numbers; left_out = left_out; within = vacancy.0.within }
+    put = grind arith
 
     kept : (i : ℕ) → i < suc (length entries) → (b : Bool) → nat_eq i (length entries) ≡ b
         → IsReachable u order (hash_at (entries ++ new_key kind text n ∷ []) i)
@@ -257,20 +237,13 @@ map-slot kind text n entries t u order _ slot is absent vacancy numbers left_out
 
 full-more : (table : KeyTable) (hash count more : ℕ) → count ≤ more → IsFull table hash count
     → IsFull table hash more
-full-more table _ count _ le full slot inside =
-    let low = full slot inside in omega arith
+full-more table _ count _ le full slot inside = omega arith
 
 kept-more : (table : KeyTable) (old new : KeyOrder) (hash count more i : ℕ) → count ≤ more
     → IsPartOf (numbers_in old) (numbers_in new) → IsReachable table old hash count i
     → IsReachable table new hash more i
 kept-more table _ _ hash count more i le part kept = elim kept [
-  | inl reached ↦ inl (record {
-    slot = reached.slot;
-    inside = reached.inside;
-    here = reached.here;
-    before = λ slot inside before.
-        let low = reached.before slot inside before in omega arith;
-  })
+  | inl reached ↦ grind arith
   | inr full ↦ inr (full-more _ _ _ _ le full.0, part i full.1)
 ]
 
@@ -290,42 +263,22 @@ map-order kind text n entries table old new _ is absent full step part among =
       first = λ i h. part i (is.first i h);
     }
   where
-    k : Key
-    k = new_key kind text n
-
     kept : (i : ℕ) → i < suc (length entries) → (b : Bool) → nat_eq i (length entries) ≡ b
         → IsReachable table new (hash_at (entries ++ new_key kind text n ∷ []) i)
         (length (entries ++ new_key kind text n ∷ [])) i
-    kept i h true e =
-        let same : length entries ≡ i = grind (arith, nat_tests) in
-        rw (← same) (rw (hash-last _ k) (inr (
-          full-more _ _ _ _ (omega (arith, longer)) full,
-          among,
-        )))
-    kept i h false e =
-        let low : i < length entries = grind (arith, nat_tests) in
-        subst (λ hash. IsReachable table new hash (length (entries ++ new_key kind text n ∷ [])) i)
-        (sym (hash-kept _ k i low)) (kept-more table old new (hash_at entries i) (length entries)
-        (length (entries ++ new_key kind text n ∷ [])) i (omega (arith, longer entries k)) part (is.kept i low))
+    kept i h true e = grind (arith, length, hash-last, new_key, full-more, longer)
+    kept i h false e = grind (arith, length, new_key, hash-kept, kept-more, hash_at, longer)
 
 -- ---- one more number
 
 -- an entry with one more number has the same kind and text, as have all others
 kind-found : (entries : List Key) (i n j : ℕ) → i < length entries
     → (key_at (set entries i (with_one (key_at entries i) n)) j).kind ≡ (key_at entries j).kind
-kind-found entries i n j low = go (nat_eq j i) refl
-  where
-    go : (b : Bool) → nat_eq j i ≡ b
-        → (key_at (set entries i (with_one (key_at entries i) n)) j).kind ≡ (key_at entries j).kind
-    go b e = grind (arith, nat_tests, key_at, set, get_or-set_same, no_key, get_or-set_other)
+kind-found entries i n j low = grind (arith, key_at, set, get_or-set_same, no_key, get_or-set_other)
 
 text-found : (entries : List Key) (i n j : ℕ) → i < length entries
     → (key_at (set entries i (with_one (key_at entries i) n)) j).text ≡ (key_at entries j).text
-text-found entries i n j low = go (nat_eq j i) refl
-  where
-    go : (b : Bool) → nat_eq j i ≡ b
-        → (key_at (set entries i (with_one (key_at entries i) n)) j).text ≡ (key_at entries j).text
-    go b e = grind (arith, nat_tests, key_at, set, get_or-set_same, no_key, get_or-set_other)
+text-found entries i n j low = grind (arith, key_at, set, get_or-set_same, no_key, get_or-set_other)
 
 pub map-found : (entries : List Key) (i n : ℕ) (table : KeyTable) (order : KeyOrder) (sorted : ℕ) → i < length entries
     → IsKeyMap entries table order sorted
@@ -370,7 +323,7 @@ step-placed entries old new place number low step for between slots = record {
   between = between;
   sorts = subst (IsOrder entries) (sym (numbers-placed old new place number slots))
       (order-placed _ _ _ _ low step.sorts for.gap);
-  fronted = rw slots (all-inserted _ _ _ _ step.fronted (record { within = low; front = for.front }));
+  fronted = grind (arith, all-inserted);
 }
 
 -- the order with the number of one more entry at its place
@@ -401,11 +354,7 @@ among-placed old new place number slots =
 -- the same slots are the same order
 pub step-same : (entries : List Key) (old new : KeyOrder) → AreInStep entries old
     → length new.heads.items ≡ length new.pages.items - 1 → slots_in new ≡ slots_in old → AreInStep entries new
-step-same entries _ _ step between slots = record {
-  between = between;
-  sorts = rw slots step.sorts;
-  fronted = rw slots step.fronted;
-}
+step-same entries _ _ step between slots = grind arith
 
 pub part-same : (old new : KeyOrder) → slots_in new ≡ slots_in old → IsPartOf (numbers_in old) (numbers_in new)
 part-same _ _ slots i a = rw slots a
@@ -437,12 +386,7 @@ has-inserted (Err _) _ _ _ _ ok = ok
 pub keys-found : (kind : Kind) (text : List ℕ) (n : ℕ) (entries : List Key) (i : ℕ) → i < length entries
     → lies_to kind text (key_at entries i) ≡ Equal → AreDistinct entries
     → in_key_order (set entries i (with_one (key_at entries i) n)) ≡ with_pair kind text n (in_key_order entries)
-keys-found kind text n entries i low equal distinct =
-    in_key_order-found _ _ n _ i low equal
-    (λ j h also. distinct j i h low (subst (λ t. lies_to (key_at entries j).kind t (key_at entries i) ≡ Equal)
-    (sym (keys-same (key_at entries j).kind kind _ _ also).1)
-    (subst (λ k. lies_to k text (key_at entries i) ≡ Equal) (sym (keys-same _ _ (key_at entries j).text text also).0)
-    equal)))
+keys-found kind text n entries i low equal distinct = grind (arith, in_key_order-found, lies_to, key_at, keys-same)
 
 pub kept-order-if : {T E : Type 0} (r : Result T E) (entries : List Key) (table : KeyTable) (old new : KeyOrder)
     (number : ℕ) → IsPartOf (numbers_in old) (numbers_in new) → OnOk r (IsAmong number (numbers_in new))
@@ -522,42 +466,20 @@ long-new kind text n entries absent = ap length (sym (in_key_order-new _ _ n _ a
 
 window-noted : (t u : KeyTable) (hash s : ℕ) → u.numbers.items ≡ t.numbers.items → u.left_out ≡ t.left_out
     → IsInWindow t hash s → IsInWindow u hash s
-window-noted t u hash s numbers left_out inside = record {
-  from = rw left_out inside.from;
-  near = rw left_out inside.near;
-  within = omega (arith, ap length numbers);
-}
+window-noted t u hash s numbers left_out inside = grind (arith, length)
 
 filled-noted : (t u : KeyTable) (hash count end : ℕ) → u.numbers.items ≡ t.numbers.items → u.left_out ≡ t.left_out
     → AreFilled t hash count end → AreFilled u hash count end
-filled-noted t u hash count _ numbers left_out filled s inside before =
-    rw numbers (filled s (window-noted u t _ s (sym numbers) (sym left_out) inside) before)
+filled-noted t u hash count _ numbers left_out filled s inside before = grind (arith, window-noted)
 
 kept-noted : (t u : KeyTable) (order : KeyOrder) (hash count i : ℕ) → u.numbers.items ≡ t.numbers.items
     → u.left_out ≡ t.left_out → IsReachable t order hash count i → IsReachable u order hash count i
-kept-noted t u _ hash count i numbers left_out kept = elim kept [
-  | inl reached ↦ inl (record {
-    slot = reached.slot;
-    inside = window-noted t u _ _ numbers left_out reached.inside;
-    here = ap (λ l. get_or l reached.slot 0) numbers ∙ reached.here;
-    before = filled-noted t u _ _ _ numbers left_out reached.before;
-  })
-  | inr full ↦ inr (
-    λ s inside. filled-noted t u _ _ (suc s) numbers left_out (λ s inside _. full.0 s inside) s inside (omega arith),
-    full.1,
-  )
-]
+kept-noted t u _ hash count i numbers left_out kept = grind (arith, window-noted, get_or, filled-noted)
 
 pub map-noted : (entries : List Key) (t u : KeyTable) (order : KeyOrder) (sorted : ℕ)
     → u.numbers.items ≡ t.numbers.items → u.left_out ≡ t.left_out → IsKeyMap entries t order sorted
     → IsKeyMap entries u order sorted
-map-noted entries t u order _ numbers left_out is = record {
-  distinct = is.distinct;
-  step = is.step;
-  kept = λ i h. kept-noted t u order _ _ i numbers left_out (is.kept i h);
-  within = is.within;
-  first = is.first;
-}
+map-noted entries t u order _ numbers left_out is = grind (arith, kept-noted)
 
 -- the map after a key was inserted, or not
 pub map-inserted : {T E : Type 0} (r : Result T E) (kind : Kind) (text : List ℕ) (n : ℕ) (entries after : List Key)

@@ -21,7 +21,7 @@ part_at : (bytes : List ℕ) (i j : ℕ) (mid post : List ℕ) → drop i bytes 
 part_at bytes i j mid post e n =
     let w : j - i ≡ length mid = omega arith in
     record {
-      is = ap (λ (k : ℕ). take k (drop i bytes)) w ∙ ap (take _) e ∙ take-append_seam _ _;
+      is = grind (arith, take, drop, take-append_seam);
       rest = ap (λ (k : ℕ). drop k bytes) n ∙ sym (drop-drop _ i _) ∙ ap (drop _) e ∙ drop-append_seam mid _;
     }
 
@@ -63,10 +63,7 @@ entries_in_order (k ∷ l ∷ ks) h = (h.0, entries_in_order (l ∷ ks) h.1)
 are_entries : (version count : ℕ) (ks : List Key) → AllByRecursion (IsKey version count) ks
     → AllByRecursion (IsEntry version) (map entry_of_key ks)
 are_entries _ _ [] h = tt
-are_entries version count (k ∷ ks) h = (
-  (h.0.kind, h.0.some_text, h.0.short, some_postings _ h.0.some_number),
-  are_entries version count ks h.1,
-)
+are_entries version count (k ∷ ks) h = grind (arith, some_postings, are_entries version count ks h.1)
 
 length_body : (t : Table) → length (body t)
     ≡ 48 + length (archive_section t) + 40 * length t.messages + 24 * length t.keys + length (texts_of (entries t)) +
@@ -112,12 +109,10 @@ has_parts bytes t seal few w sealed is =
     let spelled = is ∙ concat_then (sections t) seal ∙ concat_then (counts t) rest in
     let c = rw (← spelled) at (tells t rest w (omega (arith, size, n, few)) (omega (arith, size, n, few))
     (omega (arith, size, n, few))) in
-    let d₀ = ap (drop 48) spelled in
-    let p₁ = part_at _ _ (records_start bytes) a _ d₀ (omega arith) in
+    let p₁ = part_at _ _ (records_start bytes) a _ (ap (drop 48) spelled) (omega arith) in
     let p₂ = part_at _ _ (directory_start bytes) r _ p₁.rest (omega (arith, length_records)) in
     let p₃ = part_at _ _ (texts_start bytes) d _ p₂.rest (omega (arith, length_directory, count_entries_of)) in
     let p₄ = part_at _ _ (postings_start bytes) x _ p₃.rest (omega arith) in
-    let p₅ = part_at _ _ (digest_start bytes) p seal p₄.rest (omega arith) in
     record {
       told = c;
       size = size;
@@ -127,7 +122,7 @@ has_parts bytes t seal few w sealed is =
       records = p₂.is;
       directory = p₃.is;
       texts = p₄.is;
-      postings = p₅.is;
+      postings = (part_at _ _ (digest_start bytes) p seal p₄.rest (omega arith)).is;
     }
 
 -- the file of a table that fits in memory keeps all rules
@@ -143,29 +138,12 @@ keeps_rules bytes t few f =
     let digest = ap (λ (k : ℕ). drop k bytes) before_digest ∙ ap (drop (length b)) f.1 ∙ drop-append_seam b (sha256 b)
     ∙ ap sha256 (sym (ap (λ (k : ℕ). take k bytes) before_digest ∙ ap (take (length b)) f.1
     ∙ take-append_seam b (sha256 b))) in
-    let signed : IsSigned bytes = record {
-      long = parts.long;
-      marked = c.marked;
-      known = rw c.known w.version;
-      digest = digest;
-    } in
-    let archives : HasArchives bytes t.archives = record {
-      before = (signed, parts.adds_up);
-      spelled = parts.archives;
-      counted = sym c.archives;
-      each = rw c.known w.archives;
-    } in
-    let records : HasRecords bytes t.archives t.messages =
-    record { before = archives; spelled = parts.records; each = w.messages; in_order = w.in_order } in
+    let signed : IsSigned bytes = grind arith in
+    let archives : HasArchives bytes t.archives = grind (arith, before) in
+    let records : HasRecords bytes t.archives t.messages = grind (arith, before) in
     let keys = subst (λ (v : ℕ). AllByRecursion (IsKey v (length t.messages)) t.keys) (sym c.known) w.keys in
-    let directory : HasDirectory bytes t.archives t.messages (map entry_of_key t.keys) = record {
-      before = records;
-      spelled = parts.directory;
-      texts = parts.texts;
-      postings = parts.postings;
-      each = are_entries _ _ _ keys;
-      sorted = entries_in_order _ w.sorted;
-    } in
+    let directory : HasDirectory bytes t.archives t.messages (map entry_of_key t.keys) =
+    grind (arith, before, are_entries, entries_in_order) in
     record { before = directory; each = keys }
 
 -- ---- so it has no fault
@@ -178,8 +156,7 @@ pub same_records : (bytes : List ℕ) (archives : List Archive) (ms ns : List Re
 same_records bytes archives ms ns few a b =
     let e = sym a.spelled ∙ b.spelled in
     let l : length ms ≡ length ns = omega (arith, ap length e, length_records, length_records) in
-    sym (records_back _ _ _ few a.before.each a.each) ∙ (λ i. read_records (l i) (e i))
-    ∙ records_back _ _ _ few b.before.each b.each
+    grind (arith, records_back, read_records)
 
 pub no_fault : (bytes : List ℕ) (t : Table) → length bytes < 2 ^ 64 → IsFileOfTable bytes t → (f : IndexFault)
     → IsFirstFaultOfFile bytes f → ⊥
@@ -193,12 +170,6 @@ no_fault bytes t few w f h = go f h (keeps_rules _ t few w) w.0.archive_count
     go BadDigest h k n = h.3 k.before.before.before.before.0.digest
     go (BadLayout Counts) h k n = h.1 k.before.before.before.before.1
     go (BadLayout Archives) h k n = h.1 t.archives k.before.before.before
-    go (BadLayout Records) h k n =
-        let a = same_archives _ _ _ k.before.before.before h.1 in
-        h.2 t.messages (rw (← a) k.before.before)
+    go (BadLayout Records) h k n = grind (arith, same_archives)
     go (BadLayout Directory) h k n = grind (arith, entry_of_key)
-    go (BadLayout Postings) h k n =
-        let a = same_archives _ _ _ k.before.before.before h.3.before.before in
-        let r = subst (λ (x : List Archive). HasRecords bytes x t.messages) a k.before.before in
-        let m = same_records _ _ _ _ (omega (arith, ap length a)) r h.3.before in
-        h.4 t.keys (rw (← m) (rw (← a) k))
+    go (BadLayout Postings) h k n = grind (arith, same_archives, same_records, length)

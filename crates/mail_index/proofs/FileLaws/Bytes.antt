@@ -59,20 +59,20 @@ length_part k bytes h = length-take-le k _ h
 pub u32_back : (bytes : List ℕ) (i j : ℕ) → AreBytes bytes → i + 4 ≤ length bytes → j ≡ i + 4
     → be32 (u32_at bytes i) ++ drop j bytes ≡ drop i bytes
 u32_back bytes i j h l e =
-    let part : length (take 4 (drop i bytes)) ≡ 4 = length_part 4 (drop i _) (omega (arith, length-drop i bytes)) in
-    let b = be_bytes_4 _ (u32_at bytes i) part (take_below 4 _ (drop_below i _ h.below)) refl in
-    let d = drop-drop 4 i bytes ∙ ap (λ (k : ℕ). drop k bytes) (sym e) in
-    ap (λ (x : List ℕ). x ++ drop j bytes) b ∙ ap (λ (y : List ℕ). take 4 (drop i bytes) ++ y) (sym d)
-    ∙ take-append-drop 4 _
+    let b = be_bytes_4 _ (u32_at bytes i) (length_part 4 (drop i _) (omega (arith, length-drop i bytes)))
+    (take_below 4 _ (drop_below i _ h.below)) refl in
+    ap (λ (x : List ℕ). x ++ drop j bytes) b
+    ∙ ap (λ (y : List ℕ). take 4 (drop i bytes) ++ y)
+    (sym (drop-drop 4 i bytes ∙ ap (λ (k : ℕ). drop k bytes) (sym e))) ∙ take-append-drop 4 _
 
 pub u64_back : (bytes : List ℕ) (i j : ℕ) → AreBytes bytes → i + 8 ≤ length bytes → j ≡ i + 8
     → be64 (u64_at bytes i) ++ drop j bytes ≡ drop i bytes
 u64_back bytes i j h l e =
-    let part : length (take 8 (drop i bytes)) ≡ 8 = length_part 8 (drop i _) (omega (arith, length-drop i bytes)) in
-    let b = be_bytes_8 _ (u64_at bytes i) part (take_below 8 _ (drop_below i _ h.below)) refl in
-    let d = drop-drop 8 i bytes ∙ ap (λ (k : ℕ). drop k bytes) (sym e) in
-    ap (λ (x : List ℕ). x ++ drop j bytes) b ∙ ap (λ (y : List ℕ). take 8 (drop i bytes) ++ y) (sym d)
-    ∙ take-append-drop 8 _
+    let b = be_bytes_8 _ (u64_at bytes i) (length_part 8 (drop i _) (omega (arith, length-drop i bytes)))
+    (take_below 8 _ (drop_below i _ h.below)) refl in
+    ap (λ (x : List ℕ). x ++ drop j bytes) b
+    ∙ ap (λ (y : List ℕ). take 8 (drop i bytes) ++ y)
+    (sym (drop-drop 8 i bytes ∙ ap (λ (k : ℕ). drop k bytes) (sym e))) ∙ take-append-drop 8 _
 
 -- one byte, and what follows it
 pub byte_back : (bytes : List ℕ) (i j : ℕ) → i < length bytes → j ≡ i + 1 → byte_at bytes i ∷ drop j bytes

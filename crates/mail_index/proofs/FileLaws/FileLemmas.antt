@@ -1,5 +1,5 @@
 -- What each walk over a file finds is what the file has, and what a walk refuses is in no file.
-use Rattle.mail_index.proofs.Words.{◌≡◌, ℕ, ◌-◌, ◌*◌, ◌^◌, ◌<◌, ◌≤◌, List, length, refl, sym, ap, ◌∙◌, arith, length-drop, transport, slice_range, Record, version_number, Archive, records_start, directory_start, texts_start, HasCounts, HasArchives, HasRecords, read_archives, SpellsArchives, AreRecords, read_records, IsLayout}
+use Rattle.mail_index.proofs.Words.{◌≡◌, ℕ, ◌-◌, ◌*◌, ◌^◌, ◌<◌, ◌≤◌, List, length, refl, ap, ◌∙◌, arith, length-drop, slice_range, Record, version_number, Archive, records_start, directory_start, texts_start, HasCounts, HasArchives, HasRecords, read_archives, SpellsArchives, AreRecords, read_records, IsLayout}
 use Rattle.mail_index.specs.declared.view.layout.Layout.{Layout}
 use Rattle.mail_index.proofs.FileLaws.Bytes.{AreBytes, bytes_after, bytes_before, length_part}
 use Rattle.mail_index.proofs.ViewLaws.ArchiveReads.{read_count}
@@ -25,12 +25,7 @@ section_bytes i j xs _ e b = rw e (bytes_before _ _ (bytes_after i _ b))
 pub has_archives : (bytes : List ℕ) (l : Layout) → IsLaidOut bytes l
     → SpellsArchives (version_number l.version) l.archive_count l.archives.now
     → HasArchives bytes (read_archives (version_number l.version) l.archive_count l.archives.now)
-has_archives _ l f h = record {
-  before = f.counts;
-  spelled = sym f.layout.archives ∙ h.spelled;
-  counted = read_count _ _ _ ∙ f.layout.archive_count;
-  each = rw (← f.layout.version) h.each;
-}
+has_archives _ l f h = grind (arith, read_count)
 
 pub these_archives : (bytes : List ℕ) (l : Layout) → IsLaidOut bytes l → (archives : List Archive)
     → HasArchives bytes archives
@@ -52,12 +47,7 @@ pub has_records : (bytes : List ℕ) (l : Layout) → IsLaidOut bytes l
 has_records bytes l f a h =
     let s = shows_records _ _ l.archives.now 0 0 _ _ _ refl (section_bytes _ _ _ _ f.layout.records f.are_bytes)
     (record_section _ l f) h in
-    record {
-      before = has_archives _ l f a;
-      spelled = sym f.layout.records ∙ s.spelled;
-      each = s.each;
-      in_order = in_order 0 0 _ s.after;
-    }
+    grind (arith, has_archives, in_order)
 
 -- only the records that are read can be those of the section
 pub these_records : (bytes : List ℕ) (l : Layout) → IsLaidOut bytes l
@@ -69,5 +59,4 @@ these_records bytes l f a ms h =
     let n : length ms ≡ l.message_count = omega (arith, ap length e, length_records, record_section) in
     let r = are_records_of _ _ _ 0 0 l.archives.now _ f.few_archives a.each refl h.each (are_records_after _ h.in_order)
     in
-    let e' = sym e in
-    transport (λ i. AreRecords (version_number l.version) l.archive_count 0 0 l.archives.now (n i) (e' i)) r
+    grind (arith, version_number)

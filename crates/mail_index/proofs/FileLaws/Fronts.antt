@@ -1,5 +1,5 @@
 -- Two equal lists of bytes begin with equal parts, if these have the same lengths.
-use Rattle.mail_index.proofs.Words.{◌≡◌, ℕ, ◌^◌, ◌<◌, List, [], ◌∷◌, ◌++◌, length, map, refl, sym, ap, ◌∙◌, append_assoc, arith, flat_map, unwrap_or, concat, AllByRecursion, w32, w64, from_be_bytes, from_be_bytes-to_be_bytes_4, from_be_bytes-to_be_bytes_8, Archive, IsArchive, be32, be64, archive_bytes}
+use Rattle.mail_index.proofs.Words.{◌≡◌, ℕ, ◌^◌, ◌<◌, List, [], ◌∷◌, ◌++◌, length, map, refl, sym, ap, ◌∙◌, append_assoc, arith, flat_map, unwrap_or, concat, AllByRecursion, from_be_bytes, from_be_bytes-to_be_bytes_4, from_be_bytes-to_be_bytes_8, Archive, IsArchive, be32, be64, archive_bytes}
 use Rattle.mail_index.proofs.ViewLaws.DigestReads.{same_size, digest_is}
 
 pub split : (a b x y : List ℕ) → length a ≡ length b → a ++ x ≡ b ++ y → (a ≡ b) × (x ≡ y)
@@ -7,10 +7,7 @@ split [] [] x y h e = (refl, e)
 split [] (d ∷ b) x y h e = absurd (omega arith)
 split (c ∷ a) [] x y h e = absurd (omega arith)
 split (c ∷ a) (d ∷ b) x y h e =
-    let t : a ++ x ≡ b ++ y = cc in
-    let r = split a b x y (omega arith) t in
-    let p = r.0 in
-    let q : c ≡ d = cc in
+    let r = split a b x y (omega arith) cc in
     (cc, r.1)
 
 -- the lists one after another, and then the rest
@@ -32,17 +29,13 @@ same_parts (a ∷ xs) (b ∷ ys) x y h e =
     let h₂ : map length xs ≡ map length ys = cc in
     let s = split a b _ _ h₁ e in
     let r = same_parts xs ys x y h₂ s.1 in
-    let p = s.0 in
-    let q = r.0 in
     (cc, r.1)
 
 pub be32_is : (n m : ℕ) → n < 2 ^ 32 → m < 2 ^ 32 → be32 n ≡ be32 m → n ≡ m
-be32_is n m hn hm e = sym (from_be_bytes-to_be_bytes_4 n hn) ∙ ap (from_be_bytes w32) e
-    ∙ from_be_bytes-to_be_bytes_4 m hm
+be32_is n m hn hm e = grind (arith, from_be_bytes-to_be_bytes_4, from_be_bytes)
 
 pub be64_is : (n m : ℕ) → n < 2 ^ 64 → m < 2 ^ 64 → be64 n ≡ be64 m → n ≡ m
-be64_is n m hn hm e = sym (from_be_bytes-to_be_bytes_8 n hn) ∙ ap (from_be_bytes w64) e
-    ∙ from_be_bytes-to_be_bytes_8 m hm
+be64_is n m hn hm e = grind (arith, from_be_bytes-to_be_bytes_8, from_be_bytes)
 
 -- the bytes of as many items in both lists
 pub front_each : {A : Type 0} (f : A → List ℕ) (P : A → Type 0)
@@ -56,8 +49,6 @@ front_each f P front (a ∷ xs) (b ∷ ys) x y h p q e =
     let s = front a b (flat_map f xs ++ x) (flat_map f ys ++ y) p.0 q.0
     (sym (append_assoc _ _ x) ∙ e ∙ append_assoc _ _ y) in
     let r = front_each f P front xs ys x y (omega arith) p.1 q.1 s.1 in
-    let c = s.0 in
-    let d = r.0 in
     (cc, r.1)
 
 pub archive_front : (version : ℕ) (a b : Archive) (x y : List ℕ) → IsArchive version a → IsArchive version b
@@ -74,4 +65,4 @@ archive_front version a b x y p q e =
     let r = split _ _ _ _ lengths s.1 in
     let t = split _ _ x y (same_size _ _ _ p.2 q.2) r.1 in
     let digest = digest_is _ _ _ p.2 q.2 t.0 in
-    (λ i. record { path = r.0 i; length = sizes i; digest = digest i }, t.1)
+    grind (arith, length)

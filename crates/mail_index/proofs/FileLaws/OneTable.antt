@@ -43,13 +43,19 @@ directory_is (a ∷ es) (b ∷ fs) tp pp tq pq x y h p q s t u v e =
     let e' = sym (concat_then (entry_list tp pp a) (more ++ x)) ∙ sym (append_assoc (entry_bytes tp pp a) more x) ∙ e
     ∙ append_assoc (entry_bytes tq pq b) more' y ∙ concat_then (entry_list tq pq b) (more' ++ y) in
     let c = same_parts (entry_list tp pp a) (entry_list tq pq b) _ _ refl e' in
-    let kinds = ap (λ (l : List ℕ). get_or l 0 0) (same_at _ _ 0 c.0) in
-    let texts = be32_is _ _ p.0 q.0 (same_at _ _ 1 c.0) in
     let places = be64_is _ _ (omega arith) (omega arith) (same_at _ _ 3 c.0) in
     let r = directory_is es fs (tp + length a.text) (pp + length a.postings) (tq + length b.text)
     (pq + length b.postings) x y (omega arith) p.1 q.1 (omega arith) (omega arith) (omega arith) (omega arith) c.1
-    in
-    (places, (kinds, texts, omega arith, r.1), r.2)
+    in (
+      places,
+      (
+        (ap (λ (l : List ℕ). get_or l 0 0) (same_at _ _ 0 c.0)),
+        (be32_is _ _ p.0 q.0 (same_at _ _ 1 c.0)),
+        omega arith,
+        r.1,
+      ),
+      r.2,
+    )
 
 entries_are : (es fs : List DirectoryEntry) → AreAlike es fs → texts_of es ≡ texts_of fs → postings_of es
     ≡ postings_of fs → es
@@ -60,8 +66,7 @@ entries_are (e ∷ es) [] a t p = elim a [ ]
 entries_are (e ∷ es) (f ∷ fs) a t p =
     let s = split _ _ _ _ a.1 t in
     let u = split _ _ _ _ a.2 p in
-    let k = kind_is _ _ a.0 in
-    let h : e ≡ f = λ i. record { kind = k i; text = s.0 i; postings = u.0 i } in
+    let h : e ≡ f = λ i. record { kind = (kind_is _ _ a.0) i; text = s.0 i; postings = u.0 i } in
     let r = entries_are es fs a.3 s.1 u.1 in
     cc
 
@@ -72,12 +77,11 @@ keys_are _ _ [] (l ∷ ls) h p q e = absurd cc
 keys_are _ _ (k ∷ ks) [] h p q e = absurd cc
 keys_are version count (k ∷ ks) (l ∷ ls) h p q e =
     let head : entry_of_key k ≡ entry_of_key l = cc in
-    let tail : map entry_of_key ks ≡ map entry_of_key ls = cc in
     let kind = ap (λ (x : DirectoryEntry). x.kind) head in
     let text = ap (λ (x : DirectoryEntry). x.text) head in
     let numbers = numbers_are _ _ k l h p.0 q.0 (ap (λ (x : DirectoryEntry). x.postings) head) in
     let same : k ≡ l = λ i. record { kind = kind i; text = text i; numbers = numbers i } in
-    let r = keys_are version count ks ls h p.1 q.1 tail in
+    let r = keys_are version count ks ls h p.1 q.1 cc in
     cc
 
 pub small_archive : (version : ℕ) (archives : List Archive) (n : ℕ) → AllByRecursion (IsArchive version) archives
@@ -107,28 +111,26 @@ tail_of t x = before (archive_section t ∷ flat_map record_bytes t.messages ∷
 pub one_table : (t u : Table) (x y : List ℕ) → IsWellFormed t → IsWellFormed u → HasSmallSections t → HasSmallSections u
     → body t ++ x ≡ body u ++ y → t ≡ u
 one_table t u x y p q a b e =
-    let e₁ = sym (concat_then (sections t) x) ∙ e ∙ concat_then (sections u) y in
-    let e₂ = sym (concat_then (counts t) (tail_of t x)) ∙ e₁ ∙ concat_then (counts u) (tail_of u y) in
+    let e₂ = sym (concat_then (counts t) (tail_of t x))
+    ∙ (sym (concat_then (sections t) x) ∙ e ∙ concat_then (sections u) y) ∙ concat_then (counts u) (tail_of u y) in
     let c = same_parts (counts t) (counts u) _ _ refl e₂ in
     let version = be32_is _ _ (small_version _ p.version) (small_version _ q.version) (same_at _ _ 1 c.0) in
-    let n_archives = be32_is _ _ p.archive_count q.archive_count (same_at _ _ 2 c.0) in
     let n_messages = be32_is _ _ p.message_count q.message_count (same_at _ _ 3 c.0) in
-    let n_keys = be32_is _ _ p.key_count q.key_count (same_at _ _ 4 c.0) in
     let n_texts = be64_is _ _ a.texts b.texts (same_at _ _ 6 c.0) in
     let n_postings = be64_is _ _ a.postings b.postings (same_at _ _ 7 c.0) in
-    let named = rw (← version) at q.archives in
-    let r = front_each archive_bytes _ (archive_front _) _ _ _ _ n_archives p.archives named c.1 in
+    let r = front_each archive_bytes _ (archive_front _) _ _ _ _
+    (be32_is _ _ p.archive_count q.archive_count (same_at _ _ 2 c.0)) p.archives (rw (← version) at q.archives) c.1
+    in
     let same = r.0 in
-    let their = rw (← same) at q.messages in
     let m = front_each record_bytes _ (message_front _) _ _ _ _ n_messages
-    (with_few _ _ _ p.archive_count p.archives p.messages) (with_few _ _ _ p.archive_count p.archives their) r.1 in
-    let d = directory_is _ _ 0 0 0 0 _ _ (length-map _ _ ∙ n_keys ∙ sym (length-map _ _)) (short_texts _ _ _ p.keys)
-    (short_texts _ _ _ q.keys) (omega arith) (omega arith) (omega arith) (omega arith) m.1 in
+    (with_few _ _ _ p.archive_count p.archives p.messages)
+    (with_few _ _ _ p.archive_count p.archives (rw (← same) at q.messages)) r.1 in
+    let d = directory_is _ _ 0 0 0 0 _ _ (length-map _ _ ∙ (be32_is _ _ p.key_count q.key_count (same_at _ _ 4 c.0))
+    ∙ sym (length-map _ _)) (short_texts _ _ _ p.keys) (short_texts _ _ _ q.keys) (omega arith) (omega arith)
+    (omega arith) (omega arith) m.1 in
     let g = split _ _ _ _ n_texts d.2 in
-    let o = split _ _ x y n_postings g.1 in
-    let es = entries_are _ _ d.1 g.0 o.0 in
-    let counted = rw (← n_messages) at q.keys in
-    let known = rw (← version) at counted in
+    let es = entries_are _ _ d.1 g.0 (split _ _ x y n_postings g.1).0 in
+    let known = rw (← version) at (rw (← n_messages) at q.keys) in
     let ks = keys_are _ _ _ _ p.message_count p.keys known es in
     λ i. record { version = version i; archives = same i; messages = m.0 i; keys = ks i }
 

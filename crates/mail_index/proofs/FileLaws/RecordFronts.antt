@@ -1,5 +1,5 @@
 -- Two equal lists of bytes that begin with records, or with lists of numbers, begin with equal ones.
-use Rattle.mail_index.proofs.Words.{◌≡◌, ℕ, zero, suc, ◌+◌, ◌-◌, ◌/◌, ◌%◌, ◌^◌, ◌<◌, ◌≤◌, Bool, cond, ltb, List, [], ◌∷◌, ◌++◌, length, get_or, Option, refl, sym, ap, ◌∙◌, arith, ℤ, ltb-true, flat_map, IfSome, FitsSigned, is_some, AllByRecursion, w64, cast_unsigned, cast_signed, to_z-of_z, Fits-of_z, Fits-lt-pow, Record, Archive, IsMessage, RisesFrom, Key, IsKey, archive_length, leb128, differences_from, postings, zeros, be32, be64, bit, flags_byte, date_number, record_bytes}
+use Rattle.mail_index.proofs.Words.{◌≡◌, ℕ, zero, suc, ◌+◌, ◌-◌, ◌/◌, ◌%◌, ◌^◌, ◌<◌, ◌≤◌, Bool, ltb, List, [], ◌∷◌, ◌++◌, length, get_or, Option, refl, sym, ap, ◌∙◌, arith, ℤ, ltb-true, flat_map, IfSome, FitsSigned, is_some, AllByRecursion, w64, to_z-of_z, Record, Archive, IsMessage, RisesFrom, Key, IsKey, archive_length, leb128, differences_from, postings, zeros, be32, be64, bit, flags_byte, date_number, record_bytes}
 use Rattle.mail_index.proofs.FileLaws.Fronts.{concat_then, same_parts, be32_is, be64_is}
 
 abbrev pub at : List (List ℕ) → ℕ → List ℕ
@@ -16,7 +16,7 @@ flags_is a b c d e f g h s = grind (arith, bit)
 
 date_is : (a b : Option ℤ) → IfSome a (FitsSigned w64) → IfSome b (FitsSigned w64) → is_some a ≡ is_some b
     → be64 (date_number a) ≡ be64 (date_number b) → a ≡ b
-date_is a b h h2 h3 h4 = grind (arith, cast_unsigned, w64, be64_is, Fits-lt-pow, Fits-of_z, to_z-of_z, cast_signed)
+date_is a b h h2 h3 h4 = grind (arith, be64_is, to_z-of_z)
 
 record_list : Record → List (List ℕ)
 record_list m = be32 m.archive ∷ (flags_byte m ∷ zeros) ∷ be64 m.offset ∷ be64 m.length ∷ be64 m.size ∷ be64
@@ -58,14 +58,7 @@ Small (suc k) n = Small k (n / 128)
 pub leb_front : (k n m : ℕ) (x y : List ℕ) → Small k n → Small k m → leb128 k n ++ x ≡ leb128 k m ++ y → (n ≡ m)
     × (x ≡ y)
 leb_front zero n m x y p q e = (omega arith, e)
-leb_front (suc k) n m x y p q e = go _ refl _ refl e (λ x y. leb_front k (n / 128) (m / 128) x y p q)
-  where
-    go : (t : Bool) → ltb n 128 ≡ t → (u : Bool) → ltb m 128 ≡ u
-        → cond t (n ∷ []) ((128 + n % 128) ∷ leb128 k (n / 128)) ++ x
-        ≡ cond u (m ∷ []) ((128 + m % 128) ∷ leb128 k (m / 128)) ++ y
-        → ((x y : List ℕ) → leb128 k (n / 128) ++ x ≡ leb128 k (m / 128) ++ y → (n / 128 ≡ m / 128) × (x ≡ y)) → (n ≡ m)
-        × (x ≡ y)
-    go t h u h2 h3 h4 = grind (arith, ltb-true, leb128)
+leb_front (suc k) n m x y p q e = grind (arith, ltb-true, leb128, leb_front k (n / 128) (m / 128) x y p q)
 
 pub leb_some : (k n : ℕ) (x : List ℕ) → leb128 (suc k) n ++ x ≡ [] → ⊥
 leb_some k n x e = grind (arith, ltb, leb128)
@@ -78,7 +71,6 @@ whole (a ∷ xs) [] p q e = absurd (leb_some 4 a _ e)
 whole (a ∷ xs) (b ∷ ys) p q e =
     let s = leb_front 5 a b _ _ p.0 q.0 e in
     let r = whole xs ys p.1 q.1 s.1 in
-    let h = s.0 in
     cc
 
 differences_is : (low : ℕ) (xs ys : List ℕ) → RisesFrom low xs → RisesFrom low ys → differences_from low xs

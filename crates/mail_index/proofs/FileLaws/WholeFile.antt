@@ -1,5 +1,5 @@
 -- A file whose sections are those of a table is the file of that table: its sections are its parts in order.
-use Rattle.mail_index.proofs.Words.{◌≡◌, ℕ, ◌+◌, ◌-◌, ◌^◌, ◌<◌, ◌≤◌, List, [], ◌∷◌, ◌++◌, length, map, take, drop, refl, sym, ap, subst, ◌∙◌, arith, length-drop, length-append, length-map, transport, flat_map, slice_range, AllByRecursion, concat, take-append-drop, drop-drop, version_number, u64_at, magic, be32, be64, DirectoryEntry, entry_of_key, entries, archive_section, record_bytes, directory_from, texts_of, postings_of, counts, sections, body, index_file, Key, IsArchive, IsWellFormed, IsEntry, IsSigned, records_start, directory_start, texts_start, postings_start, digest_start, HasDigest, HasDirectory, HasPostings, IsFileOfTable, SpellsArchives, AreRecords, AreEntries, read_entries, IsList, AreLists, IsLayout, IsChecked, table_of, key_of}
+use Rattle.mail_index.proofs.Words.{◌≡◌, ℕ, ◌+◌, ◌-◌, ◌^◌, ◌<◌, ◌≤◌, List, [], ◌∷◌, ◌++◌, length, map, take, drop, refl, sym, ap, subst, ◌∙◌, arith, length-drop, length-append, length-map, transport, flat_map, slice_range, AllByRecursion, concat, take-append-drop, drop-drop, version_number, magic, be32, be64, DirectoryEntry, entry_of_key, entries, archive_section, record_bytes, directory_from, texts_of, postings_of, counts, sections, body, index_file, Key, IsArchive, IsWellFormed, IsEntry, IsSigned, records_start, directory_start, texts_start, postings_start, digest_start, HasDigest, HasDirectory, HasPostings, IsFileOfTable, SpellsArchives, AreRecords, AreEntries, read_entries, IsList, AreLists, IsLayout, IsChecked, table_of, key_of}
 use Rattle.sha2.specs.Sha256.{sha256}
 use Rattle.mail_index.specs.declared.view.layout.Layout.{Layout}
 use Rattle.mail_index.proofs.FileLaws.Fronts.{before, concat_then, split}
@@ -50,7 +50,7 @@ few_section i j xs _ e l m n = omega (arith, ap length e, section_length)
 
 ahead_of : (bytes : List ℕ) (l : Layout) → IsLaidOut bytes l → (es : List DirectoryEntry)
     → HasDirectory bytes (table_of l).archives (table_of l).messages es → IsAhead l.texts.now l.postings.now 0 0 es
-ahead_of _ l f _ h = grind (arith, few_section, texts_start, postings_start, digest_start)
+ahead_of _ l f _ h = grind (arith, few_section)
 
 counted : (bytes : List ℕ) (l : Layout) → IsLaidOut bytes l → (es : List DirectoryEntry)
     → HasDirectory bytes (table_of l).archives (table_of l).messages es → length es ≡ l.key_count
@@ -60,11 +60,11 @@ pub these_entries : (bytes : List ℕ) (l : Layout) → IsLaidOut bytes l → (e
     → HasDirectory bytes (table_of l).archives (table_of l).messages es
     → AreEntries (version_number l.version) l.texts.now (length l.postings.now) 0 0 0 [] l.key_count l.directory.now
 these_entries bytes l f es h =
-    let e = sym (f.layout.directory ∙ h.spelled) in
-    let n = counted _ l f _ h in
-    let each = subst (λ (v : ℕ). AllByRecursion (IsEntry v) es) (sym f.layout.version) h.each in
-    let a = are_entries_of _ _ _ 0 0 0 _ _ each (ahead_of _ l f _ h) (are_after _ h.sorted) in
-    transport (λ i. AreEntries (version_number l.version) l.texts.now (length l.postings.now) 0 0 0 [] (n i) (e i)) a
+    let a = are_entries_of _ _ _ 0 0 0 _ _
+    (subst (λ (v : ℕ). AllByRecursion (IsEntry v) es) (sym f.layout.version) h.each) (ahead_of _ l f _ h)
+    (are_after _ h.sorted) in
+    transport (λ i. AreEntries (version_number l.version) l.texts.now (length l.postings.now) 0 0 0 []
+    ((counted _ l f _ h) i) ((sym (f.layout.directory ∙ h.spelled)) i)) a
 
 pub has_postings : (bytes : List ℕ) (l : Layout) → IsLaidOut bytes l → HoldsRecords l
     → AreEntries (version_number l.version) l.texts.now (length l.postings.now) 0 0 0 [] l.key_count l.directory.now
@@ -84,10 +84,8 @@ pub these_lists : (bytes : List ℕ) (l : Layout) → IsLaidOut bytes l → (ks 
 these_lists bytes l f ks h =
     let es = map entry_of_key ks in
     let d = h.before in
-    let e = f.layout.directory ∙ d.spelled in
-    let n = sym (counted _ l f _ d) in
-    let back : entries_of l ≡ es = (λ i. read_entries l.texts.now l.postings.now (n i) (e i))
-    ∙ entries_back _ _ _ 0 0 _ d.each (ahead_of _ l f _ d) in
+    let back : entries_of l ≡ es = (λ i. read_entries l.texts.now l.postings.now ((sym (counted _ l f _ d)) i)
+    ((f.layout.directory ∙ d.spelled) i)) ∙ entries_back _ _ _ 0 0 _ d.each (ahead_of _ l f _ d) in
     let each = subst (λ (m : ℕ). AllByRecursion (λ x. IsList m x.postings) es) (count_records _ _)
     (lists_of_keys _ _ _ h.each) in
     are_lists _ l.texts.now _ _ _ (rw back each)
@@ -95,11 +93,9 @@ these_lists bytes l f ks h =
 -- ---- the whole
 
 then_rest : (i j : ℕ) (xs ys : List ℕ) → slice_range xs i j ≡ ys → i ≤ j → ys ++ drop j xs ≡ drop i xs
-then_rest i j xs _ e l =
-    let k : i + (j - i) ≡ j = omega arith in
-    ap (λ (y : List ℕ). y ++ drop j xs) (sym e)
-    ∙ ap (λ (y : List ℕ). take (j - i) (drop i xs) ++ y) (ap (λ (n : ℕ). drop n xs) (sym k) ∙ sym (drop-drop _ i _))
-    ∙ take-append-drop (j - i) _
+then_rest i j xs _ e l = ap (λ (y : List ℕ). y ++ drop j xs) (sym e)
+    ∙ ap (λ (y : List ℕ). take (j - i) (drop i xs) ++ y)
+    (ap (λ (n : ℕ). drop n xs) (sym (omega arith)) ∙ sym (drop-drop _ i _)) ∙ take-append-drop (j - i) _
 
 counts_front : (bytes : List ℕ) (l : Layout) → IsLaidOut bytes l
     → HasPostings bytes (table_of l).archives (table_of l).messages (table_of l).keys
@@ -107,29 +103,27 @@ counts_front : (bytes : List ℕ) (l : Layout) → IsLaidOut bytes l
 counts_front bytes l f h =
     let t = table_of l in
     let b = f.are_bytes in
-    let long = f.counts.0.long in
     let archives = read_count (version_number l.version) l.archive_count l.archives.now ∙ f.layout.archive_count in
-    let messages = count_records l.message_count l.records.now ∙ f.layout.message_count in
     let keys = length-map (entries_of l) key_of ∙ count_entries l.texts.now l.postings.now l.key_count l.directory.now
     ∙ f.layout.key_count in
-    let size₁ : length (archive_section t) ≡ u64_at bytes 24 =
-    omega (arith, ap length h.before.before.before.spelled, section_length) in
-    let size₂ : length (texts_of (entries t)) ≡ u64_at bytes 32 =
-    omega (arith, ap length h.before.texts, section_length) in
-    let size₃ : length (postings_of (entries t)) ≡ u64_at bytes 40 =
-    omega (arith, ap length h.before.postings, section_length) in
-    let c₇ = ap (λ (n : ℕ). be64 n ++ drop 48 bytes) size₃ ∙ u64_back _ 40 48 b (omega arith) refl in
-    let c₆ = ap (λ (n : ℕ). be64 n ++ drop 40 bytes) size₂ ∙ u64_back _ 32 40 b (omega arith) refl in
-    let c₅ = ap (λ (n : ℕ). be64 n ++ drop 32 bytes) size₁ ∙ u64_back _ 24 32 b (omega arith) refl in
+    let c₇ = ap (λ (n : ℕ). be64 n ++ drop 48 bytes) (omega (arith, ap length h.before.postings, section_length))
+    ∙ u64_back _ 40 48 b (omega arith) refl in
+    let c₆ = ap (λ (n : ℕ). be64 n ++ drop 40 bytes) (omega (arith, ap length h.before.texts, section_length))
+    ∙ u64_back _ 32 40 b (omega arith) refl in
+    let c₅ = ap (λ (n : ℕ). be64 n ++ drop 32 bytes)
+    (omega (arith, ap length h.before.before.before.spelled, section_length))
+    ∙ u64_back _ 24 32 b (omega arith) refl in
     let c₄ = ap (λ (n : ℕ). be32 n ++ drop 24 bytes) keys ∙ u32_back _ 20 24 b (omega arith) refl in
-    let c₃ = ap (λ (n : ℕ). be32 n ++ drop 20 bytes) messages ∙ u32_back _ 16 20 b (omega arith) refl in
+    let c₃ = ap (λ (n : ℕ). be32 n ++ drop 20 bytes)
+    (count_records l.message_count l.records.now ∙ f.layout.message_count) ∙ u32_back _ 16 20 b (omega arith) refl
+    in
     let c₂ = ap (λ (n : ℕ). be32 n ++ drop 16 bytes) archives ∙ u32_back _ 12 16 b (omega arith) refl in
     let c₁ = ap (λ (n : ℕ). be32 n ++ drop 12 bytes) f.layout.version ∙ u32_back _ 8 12 b (omega arith) refl in
     let c₀ = ap (λ (y : List ℕ). y ++ drop 8 bytes) (sym f.counts.0.marked) ∙ take-append-drop 8 bytes in
     let na = be32 (length t.archives) in let nm = be32 (length t.messages) in let nk = be32 (length t.keys) in
-    let la = be64 (length (archive_section t)) in let lt = be64 (length (texts_of (entries t))) in
-    concat_then (counts t) (drop 48 bytes)
-    ∙ ap (λ (y : List ℕ). before (magic ∷ be32 t.version ∷ na ∷ nm ∷ nk ∷ la ∷ lt ∷ []) y) c₇
+    let la = be64 (length (archive_section t)) in concat_then (counts t) (drop 48 bytes)
+    ∙ ap (λ (y : List ℕ). before (magic ∷ be32 t.version ∷ na ∷ nm ∷ nk ∷ la ∷
+    (be64 (length (texts_of (entries t)))) ∷ []) y) c₇
     ∙ ap (λ (y : List ℕ). before (magic ∷ be32 t.version ∷ na ∷ nm ∷ nk ∷ la ∷ []) y) c₆
     ∙ ap (λ (y : List ℕ). before (magic ∷ be32 t.version ∷ na ∷ nm ∷ nk ∷ []) y) c₅
     ∙ ap (λ (y : List ℕ). before (magic ∷ be32 t.version ∷ na ∷ nm ∷ []) y) c₄
@@ -144,16 +138,13 @@ body_front bytes l f h =
     let t = table_of l in
     let d = h.before in
     let s₅ : postings_of (entries t) ++ drop (digest_start bytes) bytes ≡ drop (postings_start bytes) bytes =
-    then_rest (postings_start bytes) (digest_start bytes) bytes (postings_of (entries t)) d.postings (omega arith)
-    in
+    grind (arith, then_rest, postings_of, entries) in
     let s₄ : texts_of (entries t) ++ drop (postings_start bytes) bytes ≡ drop (texts_start bytes) bytes =
-    then_rest (texts_start bytes) (postings_start bytes) bytes (texts_of (entries t)) d.texts (omega arith) in
+    grind (arith, then_rest, texts_of, entries) in
     let s₃ : directory_from 0 0 (entries t) ++ drop (texts_start bytes) bytes ≡ drop (directory_start bytes) bytes =
-    then_rest (directory_start bytes) (texts_start bytes) bytes (directory_from 0 0 (entries t)) d.spelled
-    (omega arith) in
+    grind (arith, then_rest, directory_from, entries) in
     let s₂ : flat_map record_bytes t.messages ++ drop (directory_start bytes) bytes ≡ drop (records_start bytes) bytes =
-    then_rest (records_start bytes) (directory_start bytes) bytes (flat_map record_bytes t.messages)
-    d.before.spelled (omega arith) in
+    grind (arith, then_rest, flat_map, record_bytes) in
     let s₁ : archive_section t ++ drop (records_start bytes) bytes ≡ drop 48 bytes =
     then_rest 48 (records_start bytes) bytes (archive_section t) d.before.before.spelled (omega arith) in
     let head = concat (counts t) in
@@ -164,8 +155,7 @@ body_front bytes l f h =
     ∙ ap (λ (y : List ℕ). before (head ∷ archives ∷ records ∷ directory ∷ texts_of (entries t) ∷ []) y) s₅
     ∙ ap (λ (y : List ℕ). before (head ∷ archives ∷ records ∷ directory ∷ []) y) s₄
     ∙ ap (λ (y : List ℕ). before (head ∷ archives ∷ records ∷ []) y) s₃
-    ∙ ap (λ (y : List ℕ). before (head ∷ archives ∷ []) y) s₂
-    ∙ ap (λ (y : List ℕ). before (head ∷ []) y) s₁
+    ∙ ap (λ (y : List ℕ). before (head ∷ archives ∷ []) y) s₂ ∙ ap (λ (y : List ℕ). before (head ∷ []) y) s₁
     ∙ counts_front bytes l f h
 
 signed_whole : (bytes b : List ℕ) (n : ℕ) → n + 32 ≡ length bytes → HasDigest bytes → b ++ drop n bytes ≡ bytes → bytes
@@ -180,9 +170,9 @@ signed_whole bytes b n e s w =
       length_part n bytes (omega arith),
       e,
     ) in
-    let front = (split b _ _ (drop n _) size (w ∙ sym (take-append-drop n _))).0 in
     let digest = ap (λ (k : ℕ). drop k bytes) (sym same) ∙ s ∙ ap (λ (k : ℕ). sha256 (take k bytes)) same in
-    sym w ∙ ap (λ (y : List ℕ). b ++ y) (digest ∙ ap sha256 (sym front))
+    sym w ∙ ap (λ (y : List ℕ). b ++ y) (digest
+    ∙ ap sha256 (sym (split b _ _ (drop n _) size (w ∙ sym (take-append-drop n _))).0))
 
 pub is_file : (bytes : List ℕ) (l : Layout) → IsLaidOut bytes l
     → HasPostings bytes (table_of l).archives (table_of l).messages (table_of l).keys → IsFileOfTable bytes (table_of l)
@@ -210,13 +200,4 @@ is_file bytes l f h =
 pub checked : (bytes : List ℕ) (l : Layout) → IsLaidOut bytes l → HoldsRecords l
     → AreEntries (version_number l.version) l.texts.now (length l.postings.now) 0 0 0 [] l.key_count l.directory.now
     → AreLists l.message_count l.postings.now l.key_count l.directory.now → IsChecked l
-checked bytes l f r d p = record {
-  archives = r.archives;
-  record_bytes = record_section _ l f;
-  records = r.records;
-  directory_bytes = directory_section _ l f;
-  entries = d;
-  few_messages = f.few_messages;
-  lists = p;
-  formed = (is_file _ l f (has_postings _ l f r d p)).0;
-}
+checked bytes l f r d p = grind (arith, record_bytes, record_section, directory_section, entries, is_file, has_postings)

@@ -1,5 +1,5 @@
 -- An archive that is written and read is the same, and so are its bytes if they are read and written.
-use Rattle.mail_index.proofs.Words.{Some, slice_get, ◌≡◌, ◌↔◌, ℕ, zero, suc, ◌+◌, ◌-◌, ◌^◌, ◌<◌, ◌≤◌, List, [], ◌∷◌, ◌++◌, length, take, drop, Option, refl, sym, ap, subst, ◌∙◌, arith, length-append, length-drop, append_assoc, unwrap_or, flat_map, take-append_seam, drop-append_seam, take-append-drop, append-nil, AllByRecursion, from_be_bytes-to_be_bytes_4, from_be_bytes-to_be_bytes_8, u32_at, u64_at, be32, be64, archive_bytes, IsDigest, digest_length, read_digest, after_digest, Archive, IsArchive, IsPath, archive_length, after_path, read_archive, after_archive, read_archives, after_archives, HasArchive, SpellsArchives}
+use Rattle.mail_index.proofs.Words.{Some, slice_get, ◌≡◌, ◌↔◌, ℕ, zero, suc, ◌+◌, ◌-◌, ◌^◌, ◌<◌, ◌≤◌, List, [], ◌∷◌, ◌++◌, length, take, drop, Option, refl, sym, ap, ◌∙◌, arith, length-append, length-drop, append_assoc, unwrap_or, flat_map, take-append_seam, drop-append_seam, take-append-drop, append-nil, AllByRecursion, from_be_bytes-to_be_bytes_4, u32_at, u64_at, be32, be64, archive_bytes, IsDigest, digest_length, read_digest, after_digest, Archive, IsArchive, IsPath, archive_length, after_path, read_archive, after_archive, read_archives, after_archives, HasArchive, SpellsArchives}
 use Rattle.mail_index.proofs.ViewLaws.DigestReads.{digest_back, digest_kept, digest_room}
 use Rattle.mail_index.proofs.FileLaws.Fronts.{concat_then}
 use Rattle.mail_index.proofs.FileLaws.Bytes.{AreBytes, u32_back, u64_back, length_part}
@@ -13,13 +13,11 @@ archive_back version a x h =
     let d = unwrap_or a.digest [] in
     let size = from_be_bytes-to_be_bytes_4 (length a.path) (omega arith) in
     let tail = append_assoc a.path (d ++ []) x ∙ ap (λ (y : List ℕ). a.path ++ (y ++ x)) (append-nil d) in
-    let span = from_be_bytes-to_be_bytes_8 a.length (omega arith) in
     let path = ap (λ (n : ℕ). take n (drop 12 r)) size ∙ ap (take _) tail ∙ take-append_seam a.path (d ++ x) in
     let after = ap (λ (n : ℕ). drop n (drop 12 r)) size ∙ ap (drop _) tail ∙ drop-append_seam a.path (d ++ x) in
     let back = digest_back _ _ x h.2 in
     let digest = ap (read_digest version) after ∙ back.0 in
-    let later = ap (after_digest version) after ∙ back.1 in
-    ((λ i. record { path = path i; length = span i; digest = digest i }), later)
+    grind (arith, length)
 
 -- bytes begin with an archive if they have room for a path, this is a valid path, and a digest follows it
 pub has_archive : (version : ℕ) (r : List ℕ) → AreBytes r → 12 ≤ length r → u32_at r 8 ≤ length (drop 12 r)
@@ -28,15 +26,13 @@ pub has_archive : (version : ℕ) (r : List ℕ) → AreBytes r → 12 ≤ lengt
 unfolding read_archive after_archive
 has_archive version r h l n p s t =
     let path = take (u32_at r 8) (drop 12 r) in
-    let digest = unwrap_or (read_digest version (after_path r)) [] in
     let later = after_digest version (after_path r) in
-    let size = length_part _ _ n in
-    let tail = take-append-drop (u32_at r 8) (drop 12 r) in
     let e : archive_bytes (read_archive version r) ++ later ≡ r =
-    concat_then (be64 (u64_at r 0) ∷ be32 (length path) ∷ path ∷ digest ∷ []) later
-    ∙ ap (λ (x : List ℕ). be64 (u64_at r 0) ++ (be32 (length path) ++ (path ++ x))) (digest_kept version _)
-    ∙ ap (λ (x : List ℕ). be64 (u64_at r 0) ++ (be32 (length path) ++ x)) tail
-    ∙ ap (λ (k : ℕ). be64 (u64_at r 0) ++ (be32 k ++ drop 12 r)) size
+    concat_then (be64 (u64_at r 0) ∷ be32 (length path) ∷ path ∷ (unwrap_or (read_digest version (after_path r)) []) ∷
+    []) later ∙ ap (λ (x : List ℕ). be64 (u64_at r 0) ++ (be32 (length path) ++ (path ++ x)))
+    (digest_kept version _) ∙ ap (λ (x : List ℕ). be64 (u64_at r 0) ++ (be32 (length path) ++ x))
+    (take-append-drop (u32_at r 8) (drop 12 r))
+    ∙ ap (λ (k : ℕ). be64 (u64_at r 0) ++ (be32 k ++ drop 12 r)) (length_part _ _ n)
     ∙ ap (λ (x : List ℕ). be64 (u64_at r 0) ++ x) (u32_back r 8 _ h (omega arith) refl)
     ∙ u64_back r 0 8 h (omega arith) refl in
     record { spelled = sym e; valid = (p, s, t) }
@@ -61,14 +57,7 @@ archive_front_of version r h =
     let n = ap length h.spelled ∙ length_archive a (after_archive version r) in
     let size = ap (λ (x : List ℕ). u32_at x 8) h.spelled ∙ from_be_bytes-to_be_bytes_4 (length a.path) (omega arith) in
     let path : u32_at r 8 ≤ length (drop 12 r) = omega (arith, n, size, length-drop 12 r) in
-    record {
-      long = omega arith;
-      path = path;
-      valid = h.valid.0;
-      size = h.valid.1;
-      digest = h.valid.2;
-      room = digest_room _ _ h.valid.2;
-    }
+    grind (arith, digest_room)
 
 -- the first of these archives, and the others
 after_spelled : (version n : ℕ) (r : List ℕ) → SpellsArchives version (suc n) r → after_archive version r
@@ -76,10 +65,7 @@ after_spelled : (version n : ℕ) (r : List ℕ) → SpellsArchives version (suc
 after_spelled version n r h = ap (after_archive version) h.spelled ∙ (archive_back _ _ _ h.each.0).1
 
 pub spells_front : (version n : ℕ) (r : List ℕ) → SpellsArchives version (suc n) r → HasArchive version r
-spells_front version n r h = record {
-  spelled = h.spelled ∙ ap (λ (x : List ℕ). archive_bytes (read_archive version r) ++ x) (sym (after_spelled _ n r h));
-  valid = h.each.0;
-}
+spells_front version n r h = grind (arith, archive_bytes, read_archive, after_spelled)
 
 pub spells_rest : (version n : ℕ) (r : List ℕ) → SpellsArchives version (suc n) r
     → SpellsArchives version n (after_archive version r)
@@ -87,11 +73,7 @@ spells_rest version n r h = record { spelled = after_spelled _ n r h; each = h.e
 
 pub spells_more : (version n : ℕ) (r : List ℕ) → HasArchive version r
     → SpellsArchives version n (after_archive version r) → SpellsArchives version (suc n) r
-spells_more version n r h s = record {
-  spelled = h.spelled
-      ∙ ap (λ (x : List ℕ). archive_bytes (read_archive version r) ++ x) s.spelled;
-  each = (h.valid, s.each);
-}
+spells_more version n r h s = grind (arith, archive_bytes, read_archive)
 
 -- archives are read back from their bytes
 pub archives_back : (version : ℕ) (archives : List Archive) → AllByRecursion (IsArchive version) archives
@@ -99,7 +81,6 @@ pub archives_back : (version : ℕ) (archives : List Archive) → AllByRecursion
 archives_back _ [] h = refl
 archives_back version (a ∷ rest) h =
     let b = archive_back _ a (flat_map archive_bytes rest) h.0 in
-    let head = b.0 in
     let tail = ap (read_archives version (length rest)) b.1 ∙ archives_back version rest h.1 in
     cc
 
@@ -111,18 +92,12 @@ cut_has_none version r _ n e t l h = let f = archive_front_of _ r h in absurd (o
 
 pub unnamed_has_none : (version : ℕ) (r tail path : List ℕ) (n : ℕ) → n ≡ u32_at r 8 → tail ≡ drop 12 r → path
     ≡ take n tail → (IsPath path → ⊥) → HasArchive version r → ⊥
-unnamed_has_none version r tail path n e t p refuses h =
-    let f = archive_front_of _ r h in
-    let same = sym (p ∙ ap (λ (k : ℕ). take k tail) e ∙ ap (take _) t) in
-    refuses (rw (← same) f.valid)
+unnamed_has_none version r tail path n e t p refuses h = grind (arith, archive_front_of, take)
 
 pub undigested_has_none : (version : ℕ) (r tail later : List ℕ) (n : ℕ) → n ≡ u32_at r 8 → tail ≡ drop 12 r → later
     ≡ drop n tail → (IsDigest version (read_digest version later) → ⊥)
     → HasArchive version r → ⊥
-undigested_has_none version r tail later n e t b refuses h =
-    let f = archive_front_of _ r h in
-    let same = sym (b ∙ ap (λ (k : ℕ). drop k tail) e ∙ ap (drop _) t) in
-    refuses (rw (← same) f.digest)
+undigested_has_none version r tail later n e t b refuses h = grind (arith, archive_front_of, drop)
 
 pub found : (version : ℕ) (r tail path later : List ℕ) (n s : ℕ) (digest : Option (List ℕ)) (rest : List ℕ)
     → AreBytes r → 12 ≤ length r → s ≡ u64_at r 0 → n ≡ u32_at r 8
@@ -133,14 +108,7 @@ pub found : (version : ℕ) (r tail path later : List ℕ) (n s : ℕ) (digest :
     × (rest ≡ after_archive version r)
 unfolding read_archive after_archive
 found version r tail path later n s digest _ h l es en et nl ep eb valid most its ed er =
-    let same = ep ∙ ap (λ (k : ℕ). take k tail) en ∙ ap (take _) et in
-    let after = eb ∙ ap (λ (k : ℕ). drop k tail) en ∙ ap (drop _) et in
-    let d = ed ∙ ap (read_digest version) after in
-    let front = subst (λ (y : List ℕ). IsDigest version (read_digest version y)) after its in (
-      has_archive _ r h l (omega (arith, ap length et)) (rw (← same) valid) (omega arith) front,
-      (λ i. record { path = same i; length = es i; digest = d i }),
-      er ∙ ap (after_digest version) after,
-    )
+    grind (arith, take, drop, read_digest, has_archive, length, after_digest)
 
 -- ---- the loop over archives
 
@@ -150,11 +118,7 @@ pub spells_step : (version n i : ℕ) (s r later : List ℕ) → i < n
     → SpellsArchives version n s ↔ SpellsArchives version (n - (i + 1)) later
 spells_step version n i s r later l h a b =
     let e : n - i ≡ suc (n - (i + 1)) = omega arith in
-    let forth : SpellsArchives version n s → SpellsArchives version (n - (i + 1)) later =
-    λ p. rw b (spells_rest _ _ r (rw (← e) (h.0 p))) in
-    let back : SpellsArchives version (n - (i + 1)) later → SpellsArchives version n s =
-    λ p. h.1 (rw e (spells_more _ _ r a (rw (← b) p))) in
-    (forth, back)
+    ((λ p. rw b (spells_rest _ _ r (rw (← e) (h.0 p)))), (λ p. h.1 (rw e (spells_more _ _ r a (rw (← b) p)))))
 
 pub spells_stop : (version n i : ℕ) (s r : List ℕ) → i < n
     → (SpellsArchives version n s ↔ SpellsArchives version (n - i) r) → (HasArchive version r → ⊥)
@@ -171,9 +135,8 @@ pub pass_step : (version count n i : ℕ) (s r later : List ℕ) → i < n → n
     × (after_archives version (n - (i + 1)) later ≡ after_archives version n s)
 pass_step version count n i s r _ l b h e g =
     let f : count - i ≡ suc (count - (i + 1)) = omega arith in
-    let k : n - i ≡ suc (n - (i + 1)) = omega arith in
-    let spelled = spells_rest version (count - (i + 1)) r (rw (← f) h) in (
-      rw g spelled,
+    let k : n - i ≡ suc (n - (i + 1)) = omega arith in (
+      rw g (spells_rest version (count - (i + 1)) r (rw (← f) h)),
       ap (after_archives version (n - (i + 1))) g ∙ ap (λ (j : ℕ). after_archives version j r) (sym k) ∙ e,
     )
 
@@ -181,9 +144,7 @@ pub after_value : (version : ℕ) (r tail later rest : List ℕ) (n k : ℕ) →
     ≡ drop n tail → k ≡ digest_length version → rest ≡ drop k later
     → rest ≡ after_archive version r
 unfolding after_archive
-after_value version r tail later _ n k en et eb ek er =
-    let after = eb ∙ ap (λ (j : ℕ). drop j tail) en ∙ ap (drop _) et in
-    er ∙ ap (λ (j : ℕ). drop j later) ek ∙ ap (after_digest version) after
+after_value version r tail later _ n k en et eb ek er = cc
 
 pub after_some : (version count : ℕ) (r later : List ℕ) → 0 < count → SpellsArchives version count r → later
     ≡ after_archive version r → SpellsArchives version (count - 1) later
@@ -193,7 +154,7 @@ after_some _ _ r _ h h2 h3 = grind (arith, spells_rest)
 
 pub archives_after : (version n k : ℕ) (r : List ℕ) → after_archives version (n + k) r
     ≡ after_archives version k (after_archives version n r)
-archives_after version zero k r = ap (λ (j : ℕ). after_archives version j r) (let e : 0 + k ≡ k = omega arith in e)
+archives_after version zero k r = grind (arith, after_archives)
 archives_after version (suc n) k r = ap (λ (j : ℕ). after_archives version j r)
     (let e : suc n + k ≡ suc (n + k) = omega arith in e) ∙ archives_after version n k (after_archive version r)
 

@@ -67,9 +67,9 @@ comparisons-many (suc most) kind text (k ∷ ks) (suc fewer) enough none h =
     let met : Key = get_or keys n k in
     let counted = comparisons-more most kind text keys met (take n keys) (drop (n + 1) keys) (lies_to kind text met)
     (drop_more keys n k within) refl refl in
-    let other : is_key kind text met ≡ false = all-at (λ key. is_key kind text key ≡ false) keys n k none within in
     let many = left-many most kind text (lies_to kind text met) (take n keys) (drop (n + 1) keys) fewer
-    (sym (is_key-as kind text met (lies_to kind text met) refl) ∙ other)
+    (sym (is_key-as kind text met (lies_to kind text met) refl)
+    ∙ (all-at (λ key. is_key kind text key ≡ false) keys n k none within))
     (comparisons-many most kind text (take n keys) fewer
     (omega (arith, enough, length-take-le n keys (omega (arith, within))))
     (all-take (λ key. is_key kind text key ≡ false) n keys none)
@@ -84,10 +84,9 @@ comparisons-some _ _ [] h = absurd (omega (arith, h))
 comparisons-some kind text (k ∷ ks) h =
     let keys : List Key = k ∷ ks in
     let n : ℕ = length keys / 2 in
-    let within : n < length keys = omega arith in
     let met : Key = get_or keys n k in
     let counted = comparisons-more (length ks) kind text keys met (take n keys) (drop (n + 1) keys)
-    (lies_to kind text met) (drop_more keys n k within) refl refl in
+    (lies_to kind text met) (drop_more keys n k (omega arith)) refl refl in
     omega (arith, counted)
 
 -- ---- keys from one number to another
@@ -98,8 +97,7 @@ length-between low high ks within = length-take-le _ _ (omega (arith, within, le
 from_place : (low high n : ℕ) (ks : List Key) (d : Key) → low + n < high → high ≤ length ks
     → drop n (keys_between low high ks) ≡ get_or ks (low + n) d ∷ keys_between (low + n + 1) high ks
 from_place low high n ks d less within =
-    let rest : high - low ≡ n + (high - (low + n)) = omega arith in
-    ap (λ (m : ℕ). drop n (take m (drop low ks))) rest ∙ drop-take n _ _ ∙ ap (take _) (drop-drop n _ _)
+    ap (λ (m : ℕ). drop n (take m (drop low ks))) (omega arith) ∙ drop-take n _ _ ∙ ap (take _) (drop-drop n _ _)
     ∙ between-next _ _ _ d less within
 
 before_place : (low high n : ℕ) (ks : List Key) → low + n < high → take n (keys_between low high ks)

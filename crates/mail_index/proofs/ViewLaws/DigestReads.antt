@@ -12,9 +12,10 @@ pub digest_back : (version : ℕ) (d : Option (List ℕ)) (x : List ℕ) → IsD
 digest_back _ None x h = rw h (refl, refl)
 digest_back version (Some d) x h =
     let size = sym (digest_size _ d h) in
-    let front = ap (λ (n : ℕ). take n (d ++ x)) size ∙ take-append_seam d x in
-    let after = ap (λ (n : ℕ). drop n (d ++ x)) size ∙ drop-append_seam d x in
-    rw h.0 (ap Some front, after)
+    rw h.0 (
+      ap Some (ap (λ (n : ℕ). take n (d ++ x)) size ∙ take-append_seam d x),
+      (ap (λ (n : ℕ). drop n (d ++ x)) size ∙ drop-append_seam d x),
+    )
 
 -- the bytes of the digest that is read, and those after it, are all bytes
 pub digest_kept : (version : ℕ) (y : List ℕ) → unwrap_or (read_digest version y) [] ++ after_digest version y ≡ y
@@ -42,9 +43,7 @@ pub whole_digest : (v : Version) (y d x : List ℕ) → v ≡ Two → (d ≡ tak
     × (length x + 32 ≡ length y)
     → IsDigest (version_number v) (read_digest (version_number v) y) × (Some d ≡ read_digest (version_number v) y)
     × (x ≡ after_digest (version_number v) y)
-whole_digest v y d x e cut =
-    let size : length (take 32 y) ≡ 32 = omega (arith, length-take 32 y, cut.2) in
-    rw e ((refl, size), ap Some cut.0, cut.1)
+whole_digest v y d x e cut = rw e ((refl, (omega (arith, length-take 32 y, cut.2))), ap Some cut.0, cut.1)
 
 -- two digests of a version have the same number of bytes
 pub same_size : (version : ℕ) (d e : Option (List ℕ)) → IsDigest version d → IsDigest version e

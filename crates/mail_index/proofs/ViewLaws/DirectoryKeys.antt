@@ -51,14 +51,7 @@ entry-at version texts total tp _ _ _ (suc n) d (suc i) h lt =
 list-at : (messages : ℕ) (postings : List ℕ) (n : ℕ) (d : List ℕ) (i : ℕ) → messages ≤ 2 ^ 32
     → AreLists messages postings n d → i < n → ArePosted (2 ^ 32) 0 (list_at postings (drop (24 * i) d))
 list-at _ _ zero d i few h lt = absurd (omega arith)
-list-at messages _ (suc n) d zero few h lt = (
-  h.0.1.0,
-  record {
-    rises = h.0.1.1.rises;
-    below = all-weaker _ _ (λ k low. omega arith) _ h.0.1.1.below;
-    spelled = h.0.1.1.spelled;
-  },
-)
+list-at messages _ (suc n) d zero few h lt = grind (arith, all-weaker)
 list-at messages postings (suc n) d (suc i) few h lt =
     let place : 24 + 24 * i ≡ 24 * suc i = omega arith in
     rw (← (drop-drop _ _ d ∙ ap (λ (k : ℕ). drop k d) place))
@@ -133,6 +126,5 @@ rest-at texts postings count entries keys number rest h view less back =
         ends = entry.ends;
         posted = rw back (list-at _ _ _ _ _ h.few h.lists below);
       };
-      key = ap (λ (ks : List Key). key_at ks number) (sym view) ∙ key_at-read _ _ _ _ _ below
-          ∙ ap (λ (l : List ℕ). key_of (read_entry texts postings l)) (sym back);
+      key = grind (arith, key_at, key_at-read, key_of, read_entry);
     }

@@ -1,6 +1,6 @@
 -- The walk over a directory accepts exactly the directories of tables: what it reads has the section's bytes, entry by
 -- entry.
-use Rattle.mail_index.proofs.Words.{◌≡◌, ℕ, zero, suc, ◌+◌, ◌-◌, ◌*◌, ◌^◌, ◌<◌, ◌≤◌, Bool, true, false, cond, ◌&&◌, List, [], ◌∷◌, ◌++◌, length, take, drop, refl, sym, ap, subst, ◌∙◌, arith, length-drop, length-append, nat_eq, Less, AllByRecursion, transport, take-append_seam, drop-append_seam, take-append-drop, drop-drop, nat_tests, from_be_bytes-to_be_bytes_4, from_be_bytes-to_be_bytes_8, kind_number, kind_of_number, is_kind_number, last_kind, byte_at, u32_at, u64_at, zeros, be32, be64, DirectoryEntry, entry_bytes, directory_from, texts_of, postings_of, AllNext, IsEntry, EntryBefore, key_cmp, is_entry, end_before, text_at, read_entry, read_entries, IsEntryAt, AreEntries}
+use Rattle.mail_index.proofs.Words.{◌≡◌, ℕ, zero, suc, ◌+◌, ◌-◌, ◌*◌, ◌^◌, ◌<◌, ◌≤◌, Bool, true, cond, ◌&&◌, List, [], ◌∷◌, ◌++◌, length, take, drop, refl, sym, ap, ◌∙◌, arith, length-drop, length-append, nat_eq, Less, AllByRecursion, take-append_seam, drop-append_seam, take-append-drop, drop-drop, nat_tests, from_be_bytes-to_be_bytes_4, from_be_bytes-to_be_bytes_8, kind_number, kind_of_number, is_kind_number, last_kind, byte_at, u32_at, u64_at, zeros, be32, be64, DirectoryEntry, entry_bytes, directory_from, texts_of, postings_of, AllNext, IsEntry, EntryBefore, key_cmp, is_entry, end_before, text_at, read_entry, read_entries, IsEntryAt, AreEntries}
 use Rattle.mail_index.proofs.Items.{empty_list}
 use Rattle.mail_index.proofs.FileLaws.Fronts.{before, concat_then}
 use Rattle.mail_index.proofs.FileLaws.Bytes.{AreBytes, bytes_after, bytes_before, u32_back, u64_back, byte_back, both, length_part}
@@ -47,26 +47,22 @@ entry_kept : (version : ℕ) (d : List ℕ) (tp pp : ℕ) (e : DirectoryEntry) �
     → tp ≡ u64_at d 8 → pp ≡ u64_at d 16 → entry_bytes tp pp e ++ drop 24 d ≡ d
 unfolding is_entry
 entry_kept version d tp pp e h l t ek et etp epp =
-    let k = byte_at d 0 in
     let t₁ = both _ _ t in
-    let t₂ = both _ (nat_eq (byte_at d 3) 0) t₁.1 in
-    let t₃ = both (nat_eq (byte_at d 1) 0) (nat_eq (byte_at d 2) 0) t₂.0 in
-    let kind = ap kind_number ek ∙ kind_kept _ k (few_kinds _) t₁.0 in
+    let kind = ap kind_number ek ∙ kind_kept _ (byte_at d 0) (few_kinds _) t₁.0 in
     let zero₁ : byte_at d 1 ≡ 0 = grind (arith, nat_tests) in
     let zero₂ : byte_at d 2 ≡ 0 = grind (arith, nat_tests) in
     let zero₃ : byte_at d 3 ≡ 0 = grind (arith, nat_tests) in
     let s₃ = ap (λ (n : ℕ). be64 n ++ drop 24 d) epp ∙ u64_back d 16 24 h (omega arith) refl in
-    let s₂ = ap (λ (n : ℕ). be64 n ++ drop 16 d) etp ∙ u64_back d 8 16 h (omega arith) refl in
-    let s₁ = ap (λ (n : ℕ). be32 n ++ drop 8 d) et ∙ u32_back d 4 8 h (omega arith) refl in
     let b₃ = byte_back d 3 4 (omega arith) refl in
     let b₂ = byte_back d 2 3 (omega arith) refl in
     let b₁ = byte_back d 1 2 (omega arith) refl in
     let b₀ = byte_back d 0 1 (omega arith) refl in
-    let s₀ : kind_number e.kind ∷ 0 ∷ 0 ∷ 0 ∷ drop 4 d ≡ d = cc in
     concat_then ((kind_number e.kind ∷ zeros) ∷ be32 (length e.text) ∷ be64 tp ∷ be64 pp ∷ []) (drop 24 d)
     ∙ ap (λ (x : List ℕ). before ((kind_number e.kind ∷ zeros) ∷ be32 (length e.text) ∷ be64 tp ∷ []) x) s₃
-    ∙ ap (λ (x : List ℕ). before ((kind_number e.kind ∷ zeros) ∷ be32 (length e.text) ∷ []) x) s₂
-    ∙ ap (λ (x : List ℕ). before ((kind_number e.kind ∷ zeros) ∷ []) x) s₁ ∙ s₀
+    ∙ ap (λ (x : List ℕ). before ((kind_number e.kind ∷ zeros) ∷ be32 (length e.text) ∷ []) x)
+    (ap (λ (n : ℕ). be64 n ++ drop 16 d) etp ∙ u64_back d 8 16 h (omega arith) refl)
+    ∙ ap (λ (x : List ℕ). before ((kind_number e.kind ∷ zeros) ∷ []) x)
+    (ap (λ (n : ℕ). be32 n ++ drop 8 d) et ∙ u32_back d 4 8 h (omega arith) refl) ∙ cc
 
 part_then : (a b c : ℕ) (xs : List ℕ) → a + b ≡ c → take b (drop a xs) ++ drop c xs ≡ drop a xs
 part_then a b c xs e = ap (λ (k : List ℕ). take b (drop a xs) ++ k)
@@ -85,77 +81,45 @@ pub shows_entries : (version : ℕ) (texts postings : List ℕ) (tp pp number : 
     → AreEntries version texts (length postings) tp pp number text n d
     → ShowsEntries version texts postings tp pp number text n d
 unfolding read_entry
-shows_entries _ texts postings tp pp _ _ zero d b l h = record {
-  spelled = empty_list d (omega (arith, l));
-  texts_spelled = past_all tp texts h.0;
-  postings_spelled = past_all pp postings h.1;
-  each = tt;
-  after = tt;
-}
+shows_entries _ texts postings tp pp _ _ zero d b l h = grind (arith, empty_list, past_all)
 shows_entries version texts postings tp pp number text (suc n) d b l h =
     let x = h.0 in
     let e = read_entry texts postings d in
     let es = read_entries texts postings n (drop 24 d) in
     let size = u32_at d 4 in
     let end = end_before (drop 24 d) (length postings) in
-    let long : 24 ≤ length d = omega (arith, l) in
-    let size_text : length e.text ≡ size =
-    length_part size (drop (u64_at d 8) texts)
-    (omega (arith, x.within, x.text_begins, length-drop (u64_at d 8) texts)) in
-    let size_postings : length e.postings ≡ end - pp =
-    length_part (end - u64_at d 16) (drop (u64_at d 16) postings)
-    (omega (arith, x.end, x.begins, length-drop (u64_at d 16) postings)) ∙ ap (λ (k : ℕ). end - k) x.begins in
+    let size_text : length e.text ≡ size = grind (arith, length_part, drop, u64_at, length-drop) in
+    let size_postings : length e.postings ≡ end - pp = grind (arith, length_part, u64_at, drop, length-drop) in
     let kind : kind_number e.kind ≡ byte_at d 0 =
     kind_kept (last_kind version) (byte_at d 0) (few_kinds version) (entry_kind version d x.spelled) in
-    let few_kind : kind_number e.kind ≤ last_kind version = let t = entry_kind version d x.spelled
-    in grind (arith, nat_tests, t, kind) in
+    let few_kind : kind_number e.kind ≤ last_kind version =
+    grind (arith, nat_tests, (entry_kind version d x.spelled), kind) in
     let front : entry_bytes tp pp e ++ drop 24 d ≡ d =
-    entry_kept version d tp pp e b long x.spelled refl size_text (sym x.text_begins) (sym x.begins) in
+    entry_kept version d tp pp e b (omega (arith, l)) x.spelled refl size_text (sym x.text_begins) (sym x.begins) in
     let more = shows_entries version texts postings (tp + size) end (byte_at d 0) (text_at texts d) n (drop 24 d)
     (bytes_after 24 d b) (omega (arith, l, length-drop 24 d)) h.1 in
-    let tp' : tp + size ≡ tp + length e.text = omega (arith, size_text) in
-    let pp' : end ≡ pp + length e.postings = omega (arith, size_postings, x.some) in
-    let its_text : take size (drop tp texts) ≡ e.text = ap (λ (k : ℕ). take size (drop k texts)) (sym x.text_begins) in
-    let its_postings : take (end - pp) (drop pp postings) ≡ e.postings =
-    ap (λ (k : ℕ). take (end - k) (drop k postings)) (sym x.begins) in
-    record {
-      spelled = sym front ∙ ap (λ (y : List ℕ). entry_bytes tp pp e ++ y)
-          (more.spelled ∙ ap (λ (k : ℕ). directory_from k end es) tp'
-          ∙ ap (λ (k : ℕ). directory_from (tp + length e.text) k es) pp');
-      texts_spelled = sym (part_then tp size (tp + size) texts refl)
-          ∙ ap (λ (y : List ℕ). y ++ drop (tp + size) texts) its_text
-          ∙ ap (λ (y : List ℕ). e.text ++ y) more.texts_spelled;
-      postings_spelled = sym (part_then pp (end - pp) end postings (omega (arith, x.some)))
-          ∙ ap (λ (y : List ℕ). y ++ drop end postings) its_postings
-          ∙ ap (λ (y : List ℕ). e.postings ++ y) more.postings_spelled;
-      each = (
-        (
-          few_kind,
-          omega (arith, size_text, x.some_text),
-          omega (arith, size_text, u32_small d 4 b),
-          omega (arith, size_postings, x.some),
-        ),
-        more.each,
-      );
-      after = (
-        ap (λ (k : ℕ). key_cmp number text k (text_at texts d)) kind ∙ x.after,
-        subst (λ (k : ℕ). AreAfter k (text_at texts d) es) (sym kind) more.after,
-      );
-    }
+    grind (arith, entry_bytes, directory_from, length, part_then, drop, u32_small, key_cmp, text_at)
 
 -- ---- the walk accepts the directory of a table
 
 some_length : (x : ℕ) (xs : List ℕ) (total n : ℕ) → cond (nat_eq (length (x ∷ xs)) 0) total n ≡ n
-some_length x xs total n = let e : nat_eq (suc (length xs)) 0 ≡ false = grind (arith, nat_tests)
-    in ap (λ (b : Bool). cond b total n) e
+some_length x xs total n = grind (arith, length, cond)
 
 -- where the postings of an entry end
 end_of : (tp pp total : ℕ) (es : List DirectoryEntry) → pp < 2 ^ 64 → total ≡ pp + length (postings_of es)
     → end_before (directory_from tp pp es) total ≡ pp
 end_of _ _ _ [] l e = omega arith
-end_of tp pp total (f ∷ fs) l e = some_length (kind_number f.kind)
-    (zeros ++ (be32 (length f.text) ++ (be64 tp ++ (be64 pp ++ []))) ++ directory_from (tp + length f.text)
-    (pp + length f.postings) fs) total _ ∙ from_be_bytes-to_be_bytes_8 _ l
+end_of tp pp total (f ∷ fs) l e = grind (
+  arith,
+  some_length,
+  kind_number,
+  zeros,
+  be32,
+  length,
+  be64,
+  directory_from,
+  from_be_bytes-to_be_bytes_8,
+)
 
 -- the rest of the texts and of the postings is that of these entries
 pub record IsAhead (texts postings : List ℕ) (tp pp : ℕ) (es : List DirectoryEntry) : Type 0 where
@@ -196,54 +160,24 @@ front_entry version texts postings tp pp e es h a =
     let size : u32_at d 4 ≡ length e.text = from_be_bytes-to_be_bytes_4 (length e.text) h.2 in
     let text_begins : u64_at d 8 ≡ tp = from_be_bytes-to_be_bytes_8 tp (omega (arith, a.text_bound, a.few_texts)) in
     let begins : u64_at d 16 ≡ pp = from_be_bytes-to_be_bytes_8 pp (omega (arith, a.bound, a.few_postings)) in
-    let end : end_before (drop 24 d) (length postings) ≡ pp + length e.postings =
-    end_of (tp + length e.text) (pp + length e.postings) (length postings) es
-    (omega (arith, n₂, a.bound, a.few_postings)) (omega (arith, n₂, a.bound)) in
-    let width : end_before (drop 24 d) (length postings) - u64_at d 16 ≡ length e.postings = omega (arith, end, begins)
-    in
-    let text : text_at texts d ≡ e.text = ap (λ (k : ℕ). take k (drop (u64_at d 8) texts)) size
-    ∙ ap (λ (k : ℕ). take (length e.text) (drop k texts)) text_begins
-    ∙ ap (take (length e.text)) a.texts_spelled ∙ take-append_seam e.text (texts_of es) in
+    let end : end_before (drop 24 d) (length postings) ≡ pp + length e.postings = grind (arith, end_of, length) in
+    let text : text_at texts d ≡ e.text = cc (take-append_seam e.text (texts_of es)) in
     let its : take (end_before (drop 24 d) (length postings) - u64_at d 16) (drop (u64_at d 16) postings) ≡ e.postings =
-    ap (λ (k : ℕ). take k (drop (u64_at d 16) postings)) width
+    ap (λ (k : ℕ). take k (drop (u64_at d 16) postings)) (omega (arith, end, begins))
     ∙ ap (λ (k : ℕ). take (length e.postings) (drop k postings)) begins
     ∙ ap (take (length e.postings)) a.postings_spelled ∙ take-append_seam e.postings (postings_of es) in
-    let t₂ : drop (tp + length e.text) texts ≡ texts_of es = sym (drop-drop (length e.text) tp texts)
-    ∙ ap (drop (length e.text)) a.texts_spelled ∙ drop-append_seam e.text (texts_of es) in
-    let p₂ : drop (pp + length e.postings) postings ≡ postings_of es = sym (drop-drop (length e.postings) pp postings)
-    ∙ ap (drop (length e.postings)) a.postings_spelled ∙ drop-append_seam e.postings (postings_of es) in
-    let ahead : IsAhead texts postings (tp + length e.text) (pp + length e.postings) es =
-    record {
-      text_bound = omega (arith, n₁, a.text_bound);
-      bound = omega (arith, n₂, a.bound);
-      texts_spelled = t₂;
-      postings_spelled = p₂;
-      few_texts = a.few_texts;
-      few_postings = a.few_postings;
-    } in
-    record {
-      passes = few_tests (is_kind_number (last_kind version) (kind_number e.kind))
-          (kind_passes (last_kind version) e.kind h.0);
-      size = size;
-      text_begins = text_begins;
-      begins = begins;
-      end = end;
-      text = text;
-      its = its;
-      text_room = omega (arith, n₁, a.text_bound);
-      room = omega (arith, n₂, a.bound);
-      ahead = ahead;
-    }
+    let t₂ : drop (tp + length e.text) texts ≡ texts_of es =
+    cc (drop-append_seam e.text (texts_of es), drop-drop (length e.text) tp texts) in
+    let p₂ : drop (pp + length e.postings) postings ≡ postings_of es =
+    cc (drop-append_seam e.postings (postings_of es), drop-drop (length e.postings) pp postings) in
+    let ahead : IsAhead texts postings (tp + length e.text) (pp + length e.postings) es = grind arith in
+    grind (arith, few_tests, is_kind_number, last_kind, kind_number, kind_passes)
 
 entry_back : (version : ℕ) (texts postings : List ℕ) (tp pp : ℕ) (e : DirectoryEntry) (es : List DirectoryEntry)
     (d : List ℕ)
     → FrontOf version texts postings tp pp e es d → byte_at d 0 ≡ kind_number e.kind → read_entry texts postings d ≡ e
 unfolding read_entry
-entry_back _ _ postings _ _ e _ d f k =
-    let kind = ap kind_of_number k ∙ kind_of-number e.kind in
-    let text = f.text in
-    let its = f.its in
-    λ i. record { kind = kind i; text = text i; postings = its i }
+entry_back _ _ postings _ _ e _ d f k = grind (arith, kind_of_number, kind_of-number)
 
 pub entries_back : (version : ℕ) (texts postings : List ℕ) (tp pp : ℕ) (es : List DirectoryEntry)
     → AllByRecursion (IsEntry version) es → IsAhead texts postings tp pp es
@@ -251,39 +185,25 @@ pub entries_back : (version : ℕ) (texts postings : List ℕ) (tp pp : ℕ) (es
 entries_back _ _ _ _ _ [] h a = refl
 entries_back version texts postings tp pp (e ∷ es) h a =
     let f = front_entry _ _ _ _ _ e _ h.0 a in
-    let head = entry_back _ _ _ _ _ e _ _ f refl in
     let tail = entries_back version texts postings (tp + length e.text) (pp + length e.postings) es h.1 f.ahead in
-    λ i. head i ∷ tail i
+    λ i. (entry_back _ _ _ _ _ e _ _ f refl) i ∷ tail i
 
 moved : (version : ℕ) (texts : List ℕ) (total a a' b b' c : ℕ) (t t' : List ℕ) (n : ℕ) (d : List ℕ) → a ≡ a' → b ≡ b'
     → t ≡ t' → AreEntries version texts total a b c t n d → AreEntries version texts total a' b' c t' n d
-moved version texts total a _ b _ c t _ n d p q r h =
-    transport (λ i. AreEntries version texts total (p i) (q i) c (r i) n d) h
+moved version texts total a _ b _ c t _ n d p q r h = grind arith
 
 pub are_entries_of : (version : ℕ) (texts postings : List ℕ) (tp pp number : ℕ) (text : List ℕ)
     (es : List DirectoryEntry)
     → AllByRecursion (IsEntry version) es → IsAhead texts postings tp pp es → AreAfter number text es
     → AreEntries version texts (length postings) tp pp number text (length es) (directory_from tp pp es)
-are_entries_of _ texts postings tp pp _ _ [] h a s =
-    let n₁ : length texts - tp ≡ 0 = sym (length-drop tp texts) ∙ ap length a.texts_spelled in
-    let n₂ : length postings - pp ≡ 0 = sym (length-drop pp postings) ∙ ap length a.postings_spelled in
-    (omega (arith, n₁, a.text_bound), omega (arith, n₂, a.bound))
+are_entries_of _ texts postings tp pp _ _ [] h a s = (
+  omega (arith, (sym (length-drop tp texts) ∙ ap length a.texts_spelled), a.text_bound),
+  omega (arith, (sym (length-drop pp postings) ∙ ap length a.postings_spelled), a.bound),
+)
 are_entries_of version texts postings tp pp number text (e ∷ es) h a s =
     let d = directory_from tp pp (e ∷ es) in
     let f = front_entry version texts postings tp pp e es h.0 a in
-    let x : IsEntryAt version texts (length postings) tp pp number text d = record {
-      spelled = f.passes;
-      text_begins = f.text_begins;
-      begins = f.begins;
-      some_text = omega arith;
-      within = omega arith;
-      some = omega arith;
-      end = omega arith;
-      after = ap (λ (y : List ℕ). key_cmp number text (kind_number e.kind) y) f.text ∙ s.0;
-    } in
+    let x : IsEntryAt version texts (length postings) tp pp number text d = grind (arith, key_cmp, kind_number) in
     let more = are_entries_of version texts postings (tp + length e.text) (pp + length e.postings) (kind_number e.kind)
     e.text es h.1 f.ahead s.1 in
-    let same : tp + length e.text ≡ tp + u32_at d 4 = omega arith in (
-      x,
-      moved _ _ _ _ _ _ _ _ _ _ _ _ same (sym f.end) (sym f.text) more,
-    )
+    grind (arith, moved)

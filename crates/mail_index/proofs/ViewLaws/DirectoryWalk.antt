@@ -1,11 +1,11 @@
 -- Each step of the walk over a directory keeps the question the same: whether the rest are entries from this place on.
-use Rattle.mail_index.proofs.Words.{◌≡◌, ◌↔◌, ℕ, suc, ◌+◌, ◌-◌, ◌<◌, List, drop, refl, sym, subst, arith, transport, byte_at, u32_at, end_before, text_at, IsEntryAt, AreEntries}
+use Rattle.mail_index.proofs.Words.{◌≡◌, ◌↔◌, ℕ, suc, ◌+◌, ◌-◌, ◌<◌, List, drop, refl, arith, byte_at, u32_at, end_before, text_at, IsEntryAt, AreEntries}
 
 first_of : (version : ℕ) (texts : List ℕ) (total tp pp number : ℕ) (text : List ℕ) (n i : ℕ) (d : List ℕ) → i < n
     → AreEntries version texts total tp pp number text (n - i) d
     → AreEntries version texts total tp pp number text (suc (n - (i + 1))) d
 first_of version texts total tp pp number text n i d l h = let e : n - i ≡ suc (n - (i + 1)) = omega arith
-    in subst (λ (k : ℕ). AreEntries version texts total tp pp number text k d) e h
+    in grind arith
 
 pub entries_step : (P : Type 0) (version : ℕ) (texts : List ℕ) (total tp pp number : ℕ) (text : List ℕ) (n i : ℕ)
     (d : List ℕ) (tp' pp' number' : ℕ) (text' d' : List ℕ) → i < n
@@ -19,10 +19,7 @@ entries_step P version texts total tp pp number text n i d tp' pp' number' text'
     let same : AreEntries version texts total (tp + u32_at d 4) (end_before (drop 24 d) total) (byte_at d 0)
     (text_at texts d) (n - (i + 1)) (drop 24 d)
     ≡ AreEntries version texts total tp' pp' number' text' (n - (i + 1)) d' =
-    rw (et, ep, en, ex, ed) refl in (
-      λ q. transport same (first_of version texts _ _ _ _ _ n i d l (h.0 q)).1,
-      λ q. h.1 (rw e (x, transport (sym same) q)),
-    )
+    rw (et, ep, en, ex, ed) refl in grind (arith, first_of)
 
 pub entries_stop : (P : Type 0) (version : ℕ) (texts : List ℕ) (total tp pp number : ℕ) (text : List ℕ) (n i : ℕ)
     (d : List ℕ) → i < n

@@ -1,5 +1,5 @@
 -- A kind and its number determine each other, and the newest version has each kind.
-use Rattle.mail_index.proofs.Words.{◌≡◌, ℕ, ◌<◌, ◌≤◌, true, List, sym, ap, ◌∙◌, arith, Ordering, Less, Equal, nat_cmp, ordering_then, slice_cmp, nat_tests, Kind, kind_number, kind_of_number, is_kind_number, key_cmp, last_kind}
+use Rattle.mail_index.proofs.Words.{◌≡◌, ℕ, ◌<◌, ◌≤◌, true, List, sym, ap, ◌∙◌, arith, Less, Equal, nat_cmp, nat_tests, Kind, kind_number, kind_of_number, is_kind_number, key_cmp, last_kind}
 
 pub kind_of-number : (k : Kind) → kind_of_number (kind_number k) ≡ k
 kind_of-number k = grind arith
@@ -15,7 +15,7 @@ pub kind_some : (k : Kind) → 0 < kind_number k
 kind_some k = grind arith
 
 pub kind_passes : (last : ℕ) (k : Kind) → kind_number k ≤ last → is_kind_number last (kind_number k) ≡ true
-kind_passes _ k h = let some : 1 ≤ kind_number k = omega (arith, kind_some) in grind (arith, nat_tests)
+kind_passes _ k h = grind (arith, kind_number, kind_some)
 
 pub few_kinds : (version : ℕ) → last_kind version ≤ 9
 few_kinds _ = grind arith
@@ -30,4 +30,4 @@ tied x y h = grind (arith, nat_tests)
 
 -- a key comes after kind 0
 pub first_less : (xs : List ℕ) (k : Kind) (ys : List ℕ) → key_cmp 0 xs (kind_number k) ys ≡ Less
-first_less xs k ys = ap (λ (o : Ordering). ordering_then o (slice_cmp nat_cmp xs ys)) (lower 0 _ (kind_some k))
+first_less xs k ys = cc (lower 0 _ (kind_some k))

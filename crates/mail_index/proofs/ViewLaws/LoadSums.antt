@@ -1,9 +1,8 @@
 -- A load of sixteen bytes: what its mask says of its bytes, and that two sums of its lanes are the sum of their
 -- weights.
 use lib.Lanes.{Each1, Each2, dots, fold_l, mask_l, products, sel_l, sum_l, top, zip2}
-use Rattle.mail_index.proofs.Words.{◌≡◌, ◌∙◌, ℕ, zero, suc, ◌+◌, ◌*◌, ◌%◌, ◌^◌, ◌<◌, ◌≤◌, ◌&&◌, ◌||◌, ◌⊎◌, Bool, true, false, cond, nat_lt, if◌then◌else◌, List, [], ◌∷◌, length, take, map, get_or, refl, sym, ap, subst, inl, inr, arith, nat_tests, replicate, length-take-le, length-map, Fits, w8}
+use Rattle.mail_index.proofs.Words.{◌≡◌, ◌∙◌, ℕ, zero, suc, ◌+◌, ◌*◌, ◌%◌, ◌^◌, ◌<◌, ◌≤◌, ◌&&◌, ◌||◌, ◌⊎◌, Bool, true, false, cond, nat_lt, if◌then◌else◌, List, [], ◌∷◌, length, take, map, get_or, refl, sym, ap, subst, arith, replicate, length-take-le, length-map, Fits, w8}
 use Rattle.std.proofs.Common.{bit_and, eqb, leb}
-use Rattle.std.proofs.lemmas.Bool.{cases_lt}
 use Rattle.std.proofs.lemmas.Nat.{and_mask}
 use Rattle.std.proofs.lemmas.Simd.{bytes_below, fold-sum, pick_l-range_with_len, sum_bound, sum_by-ones, sum_dots, tops_compared, zip2_splat, zip2_splat_left, length-sel_l}
 use Rattle.mail_index.specs.Inside.ShortDifferences.{AreShort, IsShortPair, weight, sum_in_load}
@@ -14,8 +13,7 @@ pub bytes_before-is : (v : List ℕ) → length v ≡ 16
     → 0 ∷ get_or v 0 0 ∷ get_or v 1 0 ∷ get_or v 2 0 ∷ get_or v 3 0 ∷ get_or v 4 0 ∷ get_or v 5 0 ∷ get_or v 6 0
     ∷ get_or v 7 0 ∷ get_or v 8 0 ∷ get_or v 9 0 ∷ get_or v 10 0 ∷ get_or v 11 0 ∷ get_or v 12 0 ∷ get_or v 13 0
     ∷ get_or v 14 0 ∷ [] ≡ take (length v) (0 ∷ v)
-bytes_before-is v long = ap (λ (l : List ℕ). 0 ∷ l) (pick_l-range_with_len 0 v 0 15 (omega arith))
-    ∙ ap (λ (n : ℕ). take n (0 ∷ v)) (sym long)
+bytes_before-is v long = grind (arith, pick_l-range_with_len, take)
 
 -- the last byte comes before no lane
 before_right : {X : Type 0} (f : ℕ → ℕ → X) (p : ℕ) (xs : List ℕ) → zip2 f xs (take (length xs) (p ∷ xs))
@@ -35,17 +33,7 @@ abbrev is_fault : ℕ → ℕ → Bool
 is_fault b before = eqb b 0 || leb 128 before && leb 128 b
 
 may_follow : (p b : ℕ) → is_fault b p ≡ false → IsShortPair p b
-may_follow p b h = (some, lower)
-  where
-    some : 0 < b
-    some = elim (cases_lt 0 b) [ inl more ↦ more | inr none ↦ absurd (grind (arith, nat_tests)) ]
-
-    lower : (p < 128) ⊎ (b < 128)
-    lower =
-        elim (cases_lt p 128) [
-          | inl low ↦ inl low
-          | inr before ↦ elim (cases_lt b 128) [ inl low ↦ inr low | inr high ↦ absurd (grind (arith, nat_tests)) ]
-        ]
+may_follow p b h = grind arith
 
 no_bit : (b : Bool) (n : ℕ) → cond b 1 0 + 2 * n ≡ 0 → (b ≡ false) × (n ≡ 0)
 no_bit true n h = absurd (omega arith)
@@ -95,7 +83,7 @@ fold_small xs s long fits is = omega (
 )
 
 once : (b m : ℕ) → m + 127 * cond (leb 128 b) m 0 ≡ (if nat_lt b 128 then m else 128 * m)
-once b m = elim (cases_lt b 128) [ inl low ↦ grind (arith, nat_tests) | inr high ↦ grind (arith, nat_tests) ]
+once b m = grind arith
 
 weigh : (n : ℕ) (bs vs : List ℕ) → length bs ≡ n → length vs ≡ n
     → sum_l (map (λ b. b % 128) vs) + 127 * sum_l (sel_l (map (leb 128) bs) (map (λ b. b % 128) vs) (replicate n 0))

@@ -1,5 +1,5 @@
 -- A look-up among sorted keys finds the key if it is there, because all keys before a lower one are lower.
-use Rattle.mail_index.proofs.Words.{◌≡◌, ◌∙◌, ℕ, zero, suc, ◌+◌, ◌-◌, ◌^◌, ◌<◌, ◌≤◌, Bool, true, false, List, [], ◌∷◌, ◌/◌, length, map, get_or, refl, sym, ap, ap₂, arith, nat_eq, Ordering, Less, Equal, Greater, nat_cmp, is_eq, ordering_reverse, slice_cmp, length-map, get_or-map, nat_tests, pow-suc, nat_list_cmp_total, is_eq-slice_cmp, Less-from_sorted, Kind, kind_number, Key, is_key, lies_to, numbers_at, AreSorted}
+use Rattle.mail_index.proofs.Words.{◌≡◌, ◌∙◌, ℕ, zero, suc, ◌+◌, ◌-◌, ◌^◌, ◌<◌, ◌≤◌, Bool, true, false, List, [], ◌∷◌, ◌/◌, length, get_or, refl, sym, ap, ap₂, arith, nat_eq, Ordering, Less, Equal, Greater, nat_cmp, is_eq, ordering_reverse, slice_cmp, length-map, get_or-map, nat_tests, pow-suc, nat_list_cmp_total, is_eq-slice_cmp, Less-from_sorted, Kind, kind_number, Key, is_key, lies_to, numbers_at, AreSorted}
 
 -- a key's bytes, by which keys are sorted
 abbrev pub key_bytes : Key → List ℕ
@@ -59,13 +59,12 @@ pub before-less : (kind : Kind) (text : List ℕ) (ks : List Key) (d : Key) (m j
 before-less kind text ks d m j sorted within less le = go (nat_eq j m) refl
   where
     go : (t : Bool) → nat_eq j m ≡ t → lies_to kind text (get_or ks j d) ≡ Less
-    go true e = let same : j ≡ m = grind (arith, nat_tests) in ap (λ i. lies_to kind text (get_or ks i d)) same ∙ less
+    go true e = ap (λ i. lies_to kind text (get_or ks i d)) (grind (arith, nat_tests)) ∙ less
     go false e =
-        let lower : j < m = grind (arith, nat_tests) in
-        let inside : m < length (map key_bytes ks) = omega (arith, within, length-map ks key_bytes) in
         let here = ap₂ (slice_cmp nat_cmp) (sym (get_or-map _ _ j d (key_bytes d) (omega arith)))
-        (sym (get_or-map _ _ m d (key_bytes d) within)) ∙ Less-from_sorted _ _ j m (key_bytes d) sorted lower inside
-        in
+        (sym (get_or-map _ _ m d (key_bytes d) within))
+        ∙ Less-from_sorted _ _ j m (key_bytes d) sorted (grind (arith, nat_tests))
+        (omega (arith, within, length-map ks key_bytes)) in
         nat_list_cmp_total.trans (key_bytes (get_or ks j d)) (key_bytes (get_or ks m d)) (kind_number kind ∷ text) here
         less
 
@@ -79,15 +78,13 @@ pub after-greater : (kind : Kind) (text : List ℕ) (ks : List Key) (d : Key) (m
 after-greater kind text ks d m j sorted greater le within = go (nat_eq j m) refl
   where
     go : (t : Bool) → nat_eq j m ≡ t → lies_to kind text (get_or ks j d) ≡ Greater
-    go true e = let same : j ≡ m = grind (arith, nat_tests) in ap (λ i. lies_to kind text (get_or ks i d)) same
-        ∙ greater
+    go true e = ap (λ i. lies_to kind text (get_or ks i d)) (grind (arith, nat_tests)) ∙ greater
     go false e =
         let wanted : List ℕ = kind_number kind ∷ text in
-        let higher : m < j = grind (arith, nat_tests) in
-        let inside : j < length (map key_bytes ks) = omega (arith, within, length-map ks key_bytes) in
         let here = ap₂ (slice_cmp nat_cmp) (sym (get_or-map _ _ m d (key_bytes d) (omega arith)))
         (sym (get_or-map _ _ j d (key_bytes d) within))
-        ∙ Less-from_sorted _ _ m j (key_bytes d) sorted higher inside in
+        ∙ Less-from_sorted _ _ m j (key_bytes d) sorted (grind (arith, nat_tests))
+        (omega (arith, within, length-map ks key_bytes)) in
         let first = nat_list_cmp_total.antisymm wanted (key_bytes (get_or ks m d)) ∙ reversed _ greater in
         let all = nat_list_cmp_total.trans wanted (key_bytes (get_or ks m d)) (key_bytes (get_or ks j d)) first here in
         nat_list_cmp_total.antisymm (key_bytes (get_or ks j d)) wanted ∙ ap ordering_reverse all
@@ -111,13 +108,7 @@ pow_some (suc n) = let before = pow_some n in omega (arith, pow-suc)
 
 pub half_digits : (keys fewer : ℕ) → 2 ^ suc fewer ≤ suc keys → (0 < keys) × (2 ^ fewer ≤ suc (keys / 2))
     × (2 ^ fewer ≤ suc (keys - (keys / 2 + 1)))
-half_digits _ fewer h =
-    let twice = pow-suc 2 fewer in
-    let some = pow_some fewer in (
-      omega arith,
-      omega arith,
-      omega arith,
-    )
+half_digits _ fewer h = grind (arith, pow-suc, pow_some)
 
 -- ---- a key that is found
 
@@ -128,9 +119,9 @@ pub numbers_at-met : (kind : Kind) (text : List ℕ) (ks : List Key) (m : ℕ) (
 numbers_at-met kind text ks m d sorted within equal =
     let wanted : List ℕ = kind_number kind ∷ text in
     numbers_at-found _ _ _ m d within (λ j lt.
-    let inside : m < length (map key_bytes ks) = omega (arith, within, length-map ks key_bytes) in
     let here = ap₂ (slice_cmp nat_cmp) (sym (get_or-map _ _ j d (key_bytes d) (omega arith)))
-    (sym (get_or-map _ _ m d (key_bytes d) within)) ∙ Less-from_sorted _ _ j m (key_bytes d) sorted lt inside in
+    (sym (get_or-map _ _ m d (key_bytes d) within))
+    ∙ Less-from_sorted _ _ j m (key_bytes d) sorted lt (omega (arith, within, length-map ks key_bytes)) in
     let after = sym (nat_list_cmp_total.congr (key_bytes (get_or ks m d)) wanted (key_bytes (get_or ks j d)) equal)
     ∙ nat_list_cmp_total.antisymm (key_bytes (get_or ks m d)) (key_bytes (get_or ks j d)) ∙ ap ordering_reverse here
     in

@@ -65,21 +65,7 @@ reads_keys version messages (e ∷ es) l h p =
     let r = reads_list _ _ l p.0 in
     let more = reads_keys version messages es l h.1 p.1 in
     let head : entry_of_key (key_of e) ≡ e = λ i. record { kind = e.kind; text = e.text; postings = r.spelled i } in
-    let tail = more.spelled in
-    record {
-      spelled = λ i. head i ∷ tail i;
-      each = (
-        record {
-          kind = h.0.0;
-          some_text = h.0.1;
-          short = h.0.2;
-          some_number = r.some;
-          rises = r.rises;
-          below = r.below;
-        },
-        more.each,
-      );
-    }
+    grind arith
 
 pub lists_of : (messages : ℕ) (texts ps : List ℕ) (n : ℕ) (d : List ℕ) → AreLists messages ps n d
     → AllByRecursion (λ e. IsList messages e.postings) (read_entries texts ps n d)
@@ -110,7 +96,7 @@ keys_in_order (k ∷ l ∷ ks) h = (h.0, keys_in_order (l ∷ ks) h.1)
 pub message_at : (count n : ℕ) (r : List ℕ) → n < count → slice_get (read_records count r) n
     ≡ Some (read_record (drop (40 * n) r))
 message_at zero n r l = absurd (omega arith)
-message_at (suc count) zero r l = ap (λ (k : ℕ). Some (read_record (drop k r))) (let e : 0 ≡ 40 * 0 = omega arith in e)
+message_at (suc count) zero r l = cc
 message_at (suc count) (suc n) r l =
     let e : 40 + 40 * n ≡ 40 * suc n = omega arith in
     message_at count n (drop 40 r) (omega arith)

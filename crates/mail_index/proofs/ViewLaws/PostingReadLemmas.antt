@@ -10,11 +10,11 @@ weights k p w = grind (arith, mul_assoc, add-mul)
 
 after-last : (low p w b : ℕ) (bs : List ℕ) → b < 128 → numbers_after low p w (b ∷ bs)
     ≡ (low + (p + b * w) - 1) ∷ numbers_after (low + (p + b * w)) 0 1 bs
-after-last _ p w b _ h = let e : nat_lt b 128 ≡ true = grind (arith, nat_tests) in rw (e, numbers_after) refl
+after-last _ p w b _ h = grind (arith, numbers_after)
 
 after-more : (low p w b : ℕ) (bs : List ℕ) → 128 ≤ b → numbers_after low p w (b ∷ bs)
     ≡ numbers_after low (p + (b - 128) * w) (128 * w) bs
-after-more _ p w b _ h = let e : nat_lt b 128 ≡ false = grind (arith, nat_tests) in rw (e, numbers_after) refl
+after-more _ p w b _ h = grind (arith, numbers_after)
 
 -- the numbers after a difference k has been read to its end
 abbrev told : ℕ → ℕ → List ℕ → List ℕ
@@ -31,16 +31,14 @@ numbers_after-leb128 (suc groups) low p w k bs h =
         ≡ told low ((p + (128 + k % 128 - 128) * w) + (k / 128) * (128 * w)) bs
         → numbers_after low p w (cond t (k ∷ []) ((128 + k % 128) ∷ leb128 (suc groups) (k / 128)) ++ bs)
         ≡ told low (p + k * w) bs
-    go true e later = let small : k < 128 = grind (arith, nat_tests) in after-last _ p w k bs small
+    go true e later = grind (arith, after-last)
     go false e later = after-more _ p w _ (leb128 (suc groups) (k / 128) ++ bs) (omega arith) ∙ later
         ∙ ap (λ d. told low d bs) (weights k p w)
 
 pub numbers_read-first : (low k : ℕ) (bs : List ℕ) → IsShort 5 k → numbers_read low (leb128 5 k ++ bs)
     ≡ (low + k - 1) ∷ numbers_read (low + k) bs
 unfolding numbers_read
-numbers_read-first low k bs h =
-    let same : 0 + k * 1 ≡ k = omega arith in
-    numbers_after-leb128 4 _ 0 1 k _ h ∙ ap (λ d. told low d bs) same
+numbers_read-first low k bs h = numbers_after-leb128 4 _ 0 1 k _ h ∙ ap (λ d. told low d bs) (omega arith)
 
 -- ---- all numbers
 
@@ -52,11 +50,14 @@ pub numbers_read-postings : (low : ℕ) (ns : List ℕ) → RisesFrom low ns →
 unfolding numbers_read
 numbers_read-postings _ [] _ _ = refl
 numbers_read-postings low (n ∷ ns) rises below =
-    let here : low + (suc n - low) - 1 ≡ n = omega arith in
-    let next : low + (suc n - low) ≡ suc n = omega arith in
-    numbers_read-first _ _ _ (short-difference n _ below.0)
-    ∙ ap₂ (λ (m k : ℕ). m ∷ numbers_read k (postings_from (suc n) ns)) here next
-    ∙ ap (λ l. n ∷ l) (numbers_read-postings (suc n) ns rises.1 below.1)
+    grind (
+      arith,
+      numbers_read-first,
+      short-difference,
+      numbers_read,
+      postings_from,
+      numbers_read-postings (suc n) ns rises.1 below.1,
+    )
 
 pub read-posted : (low : ℕ) (bytes ns : List ℕ) → ArePostings (2 ^ 32) low bytes ns → numbers_read low bytes ≡ ns
 read-posted low _ ns h = ap (numbers_read low) h.spelled ∙ numbers_read-postings _ _ h.rises h.below
@@ -83,21 +84,9 @@ pub posted-front : (limit low difference : ℕ) (bytes after ns : List ℕ) → 
     → ArePostings limit low bytes ns → Front limit low difference after ns
 posted-front _ _ d _ _ [] le short split h = grind (arith, leb128, leb_some)
 posted-front _ low d _ after (n ∷ ns) le short split h =
-    let small : n < 2 ^ 32 = omega arith in
-    let same = leb_front 5 d _ _ _ short (short-difference n _ small) (sym split ∙ h.spelled) in
+    let same = leb_front 5 d _ _ _ short (short-difference n _ (omega arith)) (sym split ∙ h.spelled) in
     let next : suc n ≡ low + d = omega arith in
-    let here : n ≡ low + d - 1 = omega arith in
-    record {
-      some = omega arith;
-      below = omega arith;
-      later = ns;
-      numbers = ap (λ (m : ℕ). m ∷ ns) here;
-      posted = record {
-        rises = rw (← next) h.rises.1;
-        below = h.below.1;
-        spelled = same.1 ∙ ap (λ (m : ℕ). postings_from m ns) next;
-      };
-    }
+    grind (arith, postings_from)
 
 -- a number before others
 pub posted-back : (limit low difference : ℕ) (bytes after : List ℕ) → 0 < difference → low + difference ≤ limit → bytes
@@ -105,13 +94,12 @@ pub posted-back : (limit low difference : ℕ) (bytes after : List ℕ) → 0 < 
     → ArePosted limit (low + difference) after → ArePosted limit low bytes
 posted-back _ low d _ _ some below split h =
     let n : ℕ = low + d - 1 in
-    let next : low + d ≡ suc n = omega arith in
-    let again : d ≡ suc n - low = omega arith in (
+    let next : low + d ≡ suc n = omega arith in (
       n ∷ h.0,
       record {
         rises = (omega arith, rw (← next) h.1.rises);
         below = (omega arith, h.1.below);
-        spelled = split ∙ ap₂ (λ (k : ℕ) (l : List ℕ). leb128 5 k ++ l) again
+        spelled = split ∙ ap₂ (λ (k : ℕ) (l : List ℕ). leb128 5 k ++ l) (omega arith)
             (h.1.spelled ∙ ap (λ (m : ℕ). postings_from m h.0) next);
       },
     )
@@ -126,6 +114,5 @@ pub posted-refused : (limit low : ℕ) (bytes : List ℕ) (r : Option (ℕ × Li
     → ((k : ℕ) (rest : List ℕ) → IsShort 5 k → bytes ≡ leb128 5 k ++ rest → r ≡ Some (k, rest)) → r ≡ None
     → 0 < length bytes → ArePosted limit low bytes → ⊥
 posted-refused limit low bytes r le only none some h =
-    let nothing = posted-none _ _ _ _ r le only none h.1 in
-    let bare = h.1.spelled ∙ ap (postings_from low) nothing in
+    let bare = h.1.spelled ∙ ap (postings_from low) (posted-none _ _ _ _ r le only none h.1) in
     absurd (omega (arith, ap length bare))

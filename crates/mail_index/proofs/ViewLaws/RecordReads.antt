@@ -26,21 +26,16 @@ date_small _ h = grind (arith, Fits-lt-pow, Fits-of_z)
 pub record_back : (m : Record) (x : List ℕ) → HasSmallFields m → read_record (record_bytes m ++ x) ≡ m
 unfolding read_record
 record_back m x h =
-    let archive = from_be_bytes-to_be_bytes_4 _ h.archive in
-    let offset = from_be_bytes-to_be_bytes_8 _ h.offset in
-    let span = from_be_bytes-to_be_bytes_8 _ h.span in
-    let size = from_be_bytes-to_be_bytes_8 _ h.size in
-    let bits = bits_back m.flags.seen m.flags.replied m.flags.flagged (is_some m.date) in
-    let flags = bits.0 in
-    let date = date_back _ _ h.date bits.1 _ (from_be_bytes-to_be_bytes_8 _ (date_small _ h.date)) in
-    λ i. record {
-      archive = archive i;
-      offset = offset i;
-      length = span i;
-      size = size i;
-      date = date i;
-      flags = flags i;
-    }
+    grind (
+      arith,
+      from_be_bytes-to_be_bytes_4,
+      from_be_bytes-to_be_bytes_8,
+      bits_back,
+      is_some,
+      date_back,
+      date_small,
+      length,
+    )
 
 pub after_record : (m : Record) (x : List ℕ) → drop 40 (record_bytes m ++ x) ≡ x
 after_record m x = refl
@@ -98,9 +93,7 @@ record_kept r h l e =
     let zero₇ : byte_at r 7 ≡ 0 = grind (arith, nat_tests, t₃.1) in
     let d : date_number (read_date f (u64_at r 32)) ≡ u64_at r 32 =
     date_kept (has_bit f 8) (u64_at r 32) (u64_small r 32 h (omega (arith, l))) t₁.1 in
-    let flags : flags_byte (read_record r) ≡ f =
-    ap (λ (b : Bool). bit 1 (has_bit f 1) + bit 2 (has_bit f 2) + bit 4 (has_bit f 4) + bit 8 b)
-    (some_date (has_bit f 8) (cast_signed w64 (u64_at r 32))) ∙ flags_kept f small in
+    let flags : flags_byte (read_record r) ≡ f = grind (arith, bit, has_bit, some_date, u64_at, flags_kept) in
     let s₅ : be64 (date_number (read_date f (u64_at r 32))) ++ drop 40 r ≡ drop 32 r =
     ap (λ (n : ℕ). be64 n ++ drop 40 r) d ∙ u64_back r 32 40 h (omega (arith, l)) refl in
     let s₄ : be64 (u64_at r 24) ++ drop 32 r ≡ drop 24 r = u64_back r 24 32 h (omega (arith, l)) refl in
@@ -114,16 +107,7 @@ record_kept r h l e =
     let s₀ : be32 (u32_at r 0) ++ drop 4 r ≡ r = u32_back r 0 4 h (omega (arith, l)) refl in
     let fields = be32 (u32_at r 0) ∷ (flags_byte (read_record r) ∷ zeros) ∷ be64 (u64_at r 8) ∷ be64 (u64_at r 16) ∷
     be64 (u64_at r 24) ∷ be64 (date_number (read_date f (u64_at r 32))) ∷ [] in
-    concat_then fields (drop 40 r)
-    ∙ ap (λ (x : List ℕ). before (be32 (u32_at r 0) ∷ (flags_byte (read_record r) ∷ zeros) ∷ be64 (u64_at r 8) ∷ be64
-    (u64_at r 16) ∷ be64 (u64_at r 24) ∷ []) x) s₅
-    ∙ ap (λ (x : List ℕ). before (be32 (u32_at r 0) ∷ (flags_byte (read_record r) ∷ zeros) ∷ be64 (u64_at r 8) ∷ be64
-    (u64_at r 16) ∷ []) x) s₄
-    ∙ ap (λ (x : List ℕ). before (be32 (u32_at r 0) ∷ (flags_byte (read_record r) ∷ zeros) ∷ be64 (u64_at r 8) ∷ []) x)
-    s₃
-    ∙ ap (λ (x : List ℕ). before (be32 (u32_at r 0) ∷ (flags_byte (read_record r) ∷ zeros) ∷ []) x) s₂
-    ∙ ap (λ (x : List ℕ). be32 (u32_at r 0) ++ x) s₁
-    ∙ s₀
+    grind (arith, concat_then, drop, before, be32, u32_at, flags_byte, read_record, zeros, be64, u64_at)
 
 few_flags : (a b c d : Bool) (n : ℕ) → (d ≡ false → n ≡ 0)
     → ((nat_le (bit 1 a + bit 2 b + bit 4 c + bit 8 d) 15 && true) &&
@@ -136,5 +120,4 @@ no_date _ h = grind arith
 -- the bytes of a record pass the test
 pub record_passes : (m : Record) (x : List ℕ) → HasSmallFields m → is_record (record_bytes m ++ x) ≡ true
 unfolding is_record
-record_passes m x h = few_flags m.flags.seen m.flags.replied m.flags.flagged (is_some m.date) _
-    (λ e. from_be_bytes-to_be_bytes_8 _ (date_small _ h.date) ∙ no_date m.date e)
+record_passes m x h = grind (arith, few_flags, is_some, from_be_bytes-to_be_bytes_8, date_small, no_date)

@@ -47,7 +47,7 @@ after_later : (version a b : ℕ) (s rest : List ℕ) → a ≤ b → rest ≡ a
     → after_archives version (b - a) rest ≡ after_archives version b s
 after_later version a b s _ l e =
     let f : a + (b - a) ≡ b = omega arith in
-    ap (after_archives version (b - a)) e ∙ sym (archives_after _ a _ s) ∙ ap (λ (k : ℕ). after_archives version k s) f
+    grind (arith, after_archives, archives_after)
 
 not_before : (archive place : ℕ) (m : Record) → is_after archive place m ≡ true → archive ≤ m.archive
 not_before _ _ m h = grind (arith, nat_tests)
@@ -59,27 +59,16 @@ date_of_read r = date_fits _ _
 pub shows_records : (version count : ℕ) (s : List ℕ) (archive place : ℕ) (rest : List ℕ) (n : ℕ) (r : List ℕ) → rest
     ≡ after_archives version archive s → AreBytes r → length r ≡ 40 * n
     → AreRecords version count archive place rest n r → ShowsRecords (read_archives version count s) archive place n r
-shows_records _ _ s _ _ _ zero r e b l h = record { spelled = empty_list r (omega arith); each = tt; after = tt }
+shows_records _ _ s _ _ _ zero r e b l h = grind (arith, empty_list)
 shows_records version count s archive place rest (suc n) r e b l h =
     let m = read_record r in
-    let below = not_before _ _ m h.1.follows in
-    let later = after_later _ _ _ s _ below e in
+    let later = after_later _ _ _ s _ (not_before _ _ m h.1.follows) e in
     let most = length_at version _ _ s h.1.exists ∙ ap (λ (x : List ℕ). u64_at x 0) (sym later) in
-    let long : 40 ≤ length r = omega arith in
     let more = shows_records version count s m.archive (m.offset + m.length)
     (after_archives version (m.archive - archive) rest) n (drop 40 r) later (bytes_after 40 r b)
     (omega (arith, l, length-drop 40 r)) h.2 in
-    let valid : IsMessage (read_archives version count s) m = record {
-      exists = omega (arith, read_count);
-      within = omega arith;
-      size = h.1.size;
-      date = date_of_read r;
-    } in
-    record {
-      spelled = sym (record_kept r b long h.0) ∙ ap (λ (x : List ℕ). record_bytes m ++ x) more.spelled;
-      each = (valid, more.each);
-      after = (h.1.follows, more.after);
-    }
+    let valid : IsMessage (read_archives version count s) m = grind (arith, read_count, date_of_read) in
+    grind (arith, record_kept, record_bytes)
 
 -- ---- the walk accepts the records of a table
 
@@ -92,9 +81,8 @@ pub records_back : (version : ℕ) (archives : List Archive) (ms : List Record) 
     → read_records (length ms) (flat_map record_bytes ms) ≡ ms
 records_back _ _ [] l a h = refl
 records_back version archives (m ∷ ms) l a h =
-    let head = record_back m (flat_map record_bytes ms) (small_fields _ _ m l a h.0) in
-    let tail = records_back version archives ms l a h.1 in
-    λ i. head i ∷ tail i
+    λ i. (record_back m (flat_map record_bytes ms) (small_fields _ _ m l a h.0)) i ∷
+    (records_back version archives ms l a h.1) i
 
 one_more : (version count archive place : ℕ) (rest : List ℕ) (n : ℕ) (r after : List ℕ) (m : Record) → read_record r
     ≡ m → drop 40 r ≡ after → is_record r ≡ true → IsNextRecord version count archive place rest m
@@ -110,14 +98,11 @@ pub are_records_of : (version count : ℕ) (s : List ℕ) (archive place : ℕ) 
 are_records_of _ _ s _ _ _ [] l a e h b = tt
 are_records_of version count s archive place rest (m ∷ ms) l a e h b =
     let r = flat_map record_bytes ms in
-    let few : length (read_archives version count s) < 2 ^ 32 = omega (arith, read_count) in
-    let small = small_fields _ _ m few a h.0 in
+    let small = small_fields _ _ m (omega (arith, read_count)) a h.0 in
     let exists : m.archive < count = omega (arith, read_count) in
-    let below = not_before _ _ m b.0 in
-    let later = after_later _ _ _ s _ below e in
+    let later = after_later _ _ _ s _ (not_before _ _ m b.0) e in
     let most = length_at version _ _ s exists ∙ ap (λ (x : List ℕ). u64_at x 0) (sym later) in
-    let next : IsNextRecord version count archive place rest m =
-    record { exists = exists; follows = b.0; within = omega arith; size = h.0.size } in
+    let next : IsNextRecord version count archive place rest m = grind arith in
     one_more _ _ _ _ _ _ _ r m (record_back m r small) (after_record m r) (record_passes m r small) next
     (are_records_of version count s m.archive (m.offset + m.length)
     (after_archives version (m.archive - archive) rest) ms l a later h.1 b.1)

@@ -1,13 +1,12 @@
 -- Each step of the walk over records keeps the question the same: whether the rest are records from this place on.
-use Rattle.mail_index.proofs.Words.{transport, ◌≡◌, ◌↔◌, ℕ, suc, ◌+◌, ◌-◌, ◌<◌, true, false, List, drop, refl, sym, subst, ◌∙◌, arith, Record, after_archives, IsNextRecord, AreRecords, read_record, is_record}
+use Rattle.mail_index.proofs.Words.{◌≡◌, ◌↔◌, ℕ, suc, ◌+◌, ◌-◌, ◌<◌, true, false, List, drop, refl, ◌∙◌, arith, Record, after_archives, IsNextRecord, AreRecords, read_record, is_record}
 
 -- ---- the loop
 
 first_of : (version count archive place : ℕ) (rest : List ℕ) (n i : ℕ) (r : List ℕ) → i < n
     → AreRecords version count archive place rest (n - i) r
     → AreRecords version count archive place rest (suc (n - (i + 1))) r
-first_of version count archive place rest n i r l h = let e : n - i ≡ suc (n - (i + 1)) = omega arith
-    in subst (λ (k : ℕ). AreRecords version count archive place rest k r) e h
+first_of version count archive place rest n i r l h = let e : n - i ≡ suc (n - (i + 1)) = omega arith in grind arith
 
 pub records_step : (P : Type 0) (version count archive place : ℕ) (rest : List ℕ) (n i : ℕ) (r : List ℕ) (m : Record)
     (a p : ℕ) (archives after : List ℕ) → i < n
@@ -22,15 +21,11 @@ records_step P version count archive place rest n i r m a p archives after l h t
     let same : AreRecords version count m'.archive (m'.offset + m'.length)
     (after_archives version (m'.archive - archive) rest) (n - (i + 1)) (drop 40 r)
     ≡ AreRecords version count a p archives (n - (i + 1)) after =
-    rw (ea, ep, eb, er, em) refl in (
-      λ q. transport same (first_of version _ _ _ _ n i r l (h.0 q)).2,
-      λ q. h.1 (rw e (t, rw (← em) x, transport (sym same) q)),
-    )
+    rw (ea, ep, eb, er, em) refl in grind (arith, first_of)
 
 pub records_stop : (P : Type 0) (version count archive place : ℕ) (rest : List ℕ) (n i : ℕ) (r : List ℕ) → i < n
     → (P ↔ AreRecords version count archive place rest (n - i) r) → is_record r ≡ false → P → ⊥
-records_stop P version count archive place rest n i r l h t q = let u =
-    (first_of _ _ _ _ _ n i r l (h.0 q)).0 in let g = sym u ∙ t in cc
+records_stop P version count archive place rest n i r l h t q = grind (arith, first_of)
 
 pub records_stray : (P : Type 0) (version count archive place : ℕ) (rest : List ℕ) (n i : ℕ) (r : List ℕ) (m : Record)
     → i < n

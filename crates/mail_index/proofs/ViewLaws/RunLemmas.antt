@@ -1,6 +1,6 @@
 -- The keys of a kind whose texts begin with a text follow one another, because sorted keys compare with them in rising
 -- order.
-use Rattle.mail_index.proofs.Words.{◌≡◌, ◌∙◌, ℕ, zero, suc, ◌+◌, ◌-◌, ◌<◌, ◌≤◌, Bool, true, false, cond, ◌&&◌, List, [], ◌∷◌, length, map, take, drop, get_or, refl, sym, ap, ap₂, arith, length-drop, nat_eq, bytes_eq, Ordering, Less, Equal, Greater, nat_cmp, is_eq, is_lt, ordering_index, ordering_then, slice_cmp, filter, starts_with, length-map, get_or-map, get_or-drop, drop_more, nat_tests, same_from_decides, Decides-like, ranked, is_eq-slice_cmp, Less-from_sorted, bytes_eq-Decides, Kind, kind_number, Key, is_of_kind, AreSorted, keys_of, keys_beginning}
+use Rattle.mail_index.proofs.Words.{◌≡◌, ◌∙◌, ℕ, zero, suc, ◌+◌, ◌-◌, ◌<◌, ◌≤◌, Bool, true, false, cond, ◌&&◌, List, [], ◌∷◌, length, take, drop, get_or, refl, sym, ap, ap₂, arith, length-drop, nat_eq, bytes_eq, Ordering, Less, Equal, Greater, nat_cmp, is_eq, is_lt, ordering_index, ordering_then, slice_cmp, filter, starts_with, length-map, get_or-map, get_or-drop, drop_more, nat_tests, ranked, is_eq-slice_cmp, Less-from_sorted, bytes_eq-Decides, Kind, kind_number, Key, is_of_kind, AreSorted, keys_of, keys_beginning}
 use Rattle.mail_index.specs.Inside.KeyRuns.{lies_to_run, keys_between}
 use Rattle.mail_index.proofs.ViewLaws.KindNumbers.{tied}
 use Rattle.mail_index.proofs.ViewLaws.LookUpLemmas.{key_bytes}
@@ -31,12 +31,10 @@ runs-rise kind text ks d i j sorted le within = go (nat_eq i j) refl
     go : (t : Bool) → nat_eq i j ≡ t → ordering_index (lies_to_run kind text (get_or ks i d)) ≤ ordering_index
         (lies_to_run kind text (get_or ks j d))
     go true e = grind (arith, nat_tests, ordering_index)
-    go false e =
-        let lower : i < j = grind (arith, nat_tests) in
-        let inside : j < length (map key_bytes ks) = omega (arith, within, length-map ks key_bytes) in
-        fronts-rise (kind_number kind ∷ text) (key_bytes (get_or ks i d)) (key_bytes (get_or ks j d))
+    go false e = fronts-rise (kind_number kind ∷ text) (key_bytes (get_or ks i d)) (key_bytes (get_or ks j d))
         (ap₂ (slice_cmp nat_cmp) (sym (get_or-map _ _ i d (key_bytes d) (omega arith)))
-        (sym (get_or-map _ _ j d (key_bytes d) within)) ∙ Less-from_sorted _ _ i j _ sorted lower inside)
+        (sym (get_or-map _ _ j d (key_bytes d) within))
+        ∙ Less-from_sorted _ _ i j _ sorted (grind (arith, nat_tests)) (omega (arith, within, length-map ks key_bytes)))
 
 -- what a comparison of two orderings says about them
 pub less_index : (o p : Ordering) → is_lt (nat_cmp (ordering_index o) (ordering_index p)) ≡ true
@@ -50,8 +48,7 @@ no_less_index o p h = grind (arith, nat_cmp, ordering_index, is_lt, ranked)
 -- ---- the keys of a run
 
 pub bytes_turned : (xs ys : List ℕ) → bytes_eq xs ys ≡ bytes_eq ys xs
-bytes_turned xs ys = same_from_decides (bytes_eq xs ys) (bytes_eq ys xs) (bytes_eq-Decides xs ys)
-    (Decides-like _ sym sym (bytes_eq-Decides _ _))
+bytes_turned xs ys = grind (arith, bytes_eq, bytes_eq-Decides)
 
 -- a key compares as equal with a run exactly if it is one of its keys
 in_run : (kind : Kind) (text : List ℕ) (k : Key) → (is_of_kind kind k && starts_with nat_eq k.text text)
@@ -133,7 +130,7 @@ keys_beginning-none kind ks = all-kept _
 -- ---- the next key of a run
 
 pub between-none : (low high : ℕ) (ks : List Key) → high ≤ low → keys_between low high ks ≡ []
-between-none low high ks le = let none : high - low ≡ 0 = omega arith in ap (λ n. take n (drop low ks)) none
+between-none low high ks le = grind (arith, take, drop)
 
 pub between-next : (low high : ℕ) (ks : List Key) (d : Key) → low < high → high ≤ length ks → keys_between low high ks
     ≡ get_or ks low d ∷ keys_between (low + 1) high ks

@@ -42,20 +42,10 @@ leb-one : (b : ℕ) → b < 128 → leb128 5 b ≡ b ∷ []
 leb-one b h = grind (arith, nat_tests)
 
 split-nil : (p : ℕ) → p < 128 → Split p []
-split-nil p h = record {
-  differences = [];
-  each = tt;
-  total = omega arith;
-  spelled = sym (begun-none p h);
-}
+split-nil p h = grind (arith, begun-none)
 
 split-begun : (p b : ℕ) → p < 128 → 128 ≤ b → b < 256 → Split p (b ∷ [])
-split-begun p b h high small = record {
-  differences = [];
-  each = tt;
-  total = omega (arith, light);
-  spelled = sym (begun-one b high);
-}
+split-begun p b h high small = grind (arith, light, begun-one)
 
 split-one : (p b : ℕ) (bs : List ℕ) → p < 128 → 0 < b → b < 128 → Split b bs → Split p (b ∷ bs)
 split-one p b _ h some low s = record {
@@ -68,11 +58,9 @@ split-one p b _ h some low s = record {
 split-two : (p b c : ℕ) (bs : List ℕ) → p < 128 → 128 ≤ b → b < 256 → 0 < c → c < 128 → Split c bs
     → Split p (b ∷ c ∷ bs)
 split-two p b c _ h high small some low s =
-    let d : ℕ = (b - 128) + 128 * c in
-    let back : 128 + (b - 128) ≡ b = omega arith in
-    let bytes = leb-two (b - 128) c (omega arith) some low ∙ ap (λ (n : ℕ). n ∷ c ∷ []) back in
+    let bytes = leb-two (b - 128) c (omega arith) some low ∙ ap (λ (n : ℕ). n ∷ c ∷ []) (omega arith) in
     record {
-      differences = d ∷ s.differences;
+      differences = ((b - 128) + 128 * c) ∷ s.differences;
       each = ((omega arith, omega arith), s.each);
       total = omega (arith, light, heavy);
       spelled = rw bytes (ap (λ (l : List ℕ). b ∷ c ∷ l) s.spelled);
@@ -84,10 +72,7 @@ second b c _ (some, inr low) = low
 
 pub split : (p : ℕ) (bs : List ℕ) → p < 128 → Each1 (λ b. b < 256) bs → Each2 IsShortPair (p ∷ bs) bs → Split p bs
 split p [] h f m = split-nil p h
-split p (b ∷ []) h f m = elim (cases_lt b 128) [
-  | inl low ↦ split-one p b _ h m.0.0 low (split-nil b low)
-  | inr high ↦ split-begun p b h high f.0
-]
+split p (b ∷ []) h f m = grind (arith, split-one, split-nil, split-begun)
 split p (b ∷ c ∷ bs) h f m = elim (cases_lt b 128) [
   | inl low ↦ split-one p b _ h m.0.0 low (split b (c ∷ bs) low f.1 m.1)
   | inr high ↦
