@@ -13,7 +13,7 @@ with_messages-append n (m ∷ xs) ys ks = grind
     (arith, with_messages-append (suc n) xs ys (with_terms n (message_terms (text m)) ks))
 
 pub with_messages-more : (n : ℕ) (ms : List Message) (ks : List Key) → length ks ≤ length (with_messages n ms ks)
-with_messages-more n [] ks = omega arith
+with_messages-more n [] _ = omega arith
 with_messages-more n (m ∷ ms) ks = grind
     (arith, with_terms-more, with_messages-more (suc n) ms (with_terms n (message_terms (text m)) ks))
 
@@ -36,7 +36,7 @@ module _ (number : ℕ) where
 
 pub weaker : (refusal : Option CutFault) (A B : Type 0) → (A → B) → (f : JobFault) → IsJobFault refusal A f
     → IsJobFault refusal B f
-weaker refusal A B h f h2 = grind arith
+weaker _ A B h f h2 = grind arith
 
 -- ---- an archive, message by message
 

@@ -11,7 +11,7 @@ use Rattle.index_job.specs.Inside.BlankTexts.{is_blank_text}
 
 blank-ascii : (bs : List ℕ) → is_blank_text bs ≡ true → IsAscii bs
 blank-ascii [] h = IsAscii-nil
-blank-ascii (b ∷ bs) h = IsAscii-cons b bs (grind (arith, nat_tests)) (blank-ascii bs (grind arith))
+blank-ascii (b ∷ bs) h = IsAscii-cons b _ (grind (arith, nat_tests)) (blank-ascii bs (grind arith))
 
 blank-other : (b : ℕ) → b ≤ 0x20 → is_other b ≡ true
 blank-other b small = grind (arith, nat_tests, is_word_character-ascii)
@@ -21,11 +21,10 @@ blank-passed [] h = refl
 blank-passed (b ∷ bs) h = grind (arith, nat_tests, blank-other, blank-passed bs)
 
 pub blank-words : (text : List ℕ) → is_blank_text text ≡ true → words text ≡ []
-blank-words text h =
-    sym (words_left-whole text) ∙ ap (words_left false) (chars-IsAscii text (blank-ascii text h))
-    ∙ words_left-gaps false text ∙ ap (words_left false) (blank-passed text h) ∙ words_left-end false
+blank-words text h = sym (words_left-whole _) ∙ ap (words_left false) (chars-IsAscii _ (blank-ascii _ h))
+    ∙ words_left-gaps _ _ ∙ ap (words_left false) (blank-passed _ h) ∙ words_left-end _
 
 -- so it has no terms
 pub blank-terms : (kind : TextKind) (text : List ℕ) (d : Draft) → is_blank_text text ≡ true
     → d ≡ draft_with_terms (text_terms (kind, text)) d
-blank-terms kind text d h = rw (blank-words text h) refl
+blank-terms _ text d h = rw (blank-words _ h) refl

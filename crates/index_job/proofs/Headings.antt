@@ -7,14 +7,14 @@ pub heads-message : (all : ℕ) (ms : Option (List Message)) (refusal : Option C
     (new : Option ComingEvents)
     → TakesKnown (Start at line) (Some (coming_ahead all ms refusal)) new
     → Heads (heading.Message at) all ms refusal new
-heads-message all None refusal at line new (after, is, (events, same)) = absurd cc
-heads-message all (Some []) refusal at line new (after, is, (events, same)) = absurd cc
-heads-message all (Some (m ∷ later)) refusal at line new (after, is, (events, same)) = grind arith
+heads-message _ None _ _ _ _ (after, is, (events, same)) = absurd cc
+heads-message _ (Some []) _ _ _ _ (after, is, (events, same)) = absurd cc
+heads-message _ (Some (m ∷ later)) _ _ _ _ (after, is, (events, same)) = grind arith
 
 -- if the archive ends, no message was to come, and nothing is refused
 pub heads-end : (all : ℕ) (ms : Option (List Message)) (refusal : Option CutFault) (length : ℕ)
     (new : Option ComingEvents)
     → TakesKnown (Done length) (Some (coming_ahead all ms refusal)) new → Heads (heading.End length) all ms refusal new
-heads-end all None refusal length new (after, is, (events, none, same)) = absurd cc
-heads-end all (Some (m ∷ ms)) refusal length new (after, is, (events, none, same)) = absurd cc
-heads-end all (Some []) refusal length new (after, is, (events, none, same)) = (refl, cc, none)
+heads-end _ None _ _ _ (after, is, (events, none, same)) = absurd cc
+heads-end _ (Some (m ∷ ms)) _ _ _ (after, is, (events, none, same)) = absurd cc
+heads-end _ (Some []) _ _ _ (after, is, (events, none, same)) = (refl, cc, none)

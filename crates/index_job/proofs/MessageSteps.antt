@@ -17,19 +17,13 @@ end_of-last n (s ∷ t ∷ rs) r = end_of-last n (t ∷ rs) r
 pub message-fault : (archive : ℕ) (d : Draft) (w : Awaited) (f : JobFault) → d.failed ≡ false
     → IsMessageFault (draft_in_message d) w f
     → IsJobFault w.refusal (HasTooMany (draft_with_messages archive (w.message ∷ []) d)) f
-message-fault archive d w f kept h = grind arith
+message-fault _ d w f kept h = grind arith
 
 -- ---- the open message
 
 pub opens : (archive place : ℕ) (d : Draft) → IsReadyForMessage archive place d
     → IsOpenAt archive place (draft_in_message d)
-opens archive place d h = record {
-  kept = h.kept;
-  phase = λ kept. ((h.phase kept).0, refl);
-  most = h.most;
-  archive = h.archive;
-  after = h.after;
-}
+opens archive _ d h = grind arith
 
 -- ---- its end
 
@@ -82,5 +76,5 @@ pub own-fault : {T : Type 0} (r : Result T JobFault) (gathered : MessageText) (b
     → HasGathered gathered builder d ls
     → IfErr r (λ f. (ls : List (List ℕ)) (d : Draft) → HasGathered gathered builder d ls
     → IsGatherFault (draft_with_terms (message_terms ls) d) f) → IfErr r IsArchiveFault
-own-fault (Ok x) gathered builder d ls g fails = tt
-own-fault (Err f) gathered builder d ls g fails = gather-own (draft_with_terms (message_terms ls) d) f (fails ls d g)
+own-fault (Ok x) _ _ d _ g _ = tt
+own-fault (Err f) _ _ d ls g fails = gather-own (draft_with_terms (message_terms ls) d) f (fails ls d g)

@@ -1,5 +1,5 @@
 -- The table of archives has the numbers of the messages at their terms, and is the only such table.
-use Rattle.index_job.proofs.Words.{◌≡◌, ◌∙◌, ℕ, suc, ◌<◌, ◌≤◌, Bool, true, false, cond, nat_eq, nat_lt, ◌&&◌, List, [], ◌∷◌, ◌++◌, length, map, refl, sym, ap, ap₂, arith, append-nil, append_assoc, bytes_eq, AllByRecursion, nat_tests, Key, KeyBefore, AllNext, newest, IsKey, with_pair, Message, text, Mbox, all_messages, table, with_terms, with_messages, Term, message_terms}
+use Rattle.index_job.proofs.Words.{◌≡◌, ◌∙◌, ℕ, suc, ◌<◌, ◌≤◌, Bool, true, false, cond, nat_eq, ◌&&◌, List, [], ◌∷◌, ◌++◌, length, map, refl, sym, ap, arith, append-nil, append_assoc, bytes_eq, AllByRecursion, Key, KeyBefore, AllNext, newest, with_pair, Message, text, Mbox, all_messages, table, with_terms, with_messages, Term, message_terms}
 use Rattle.std.specs.Prelude.{◌≢◌, filter}
 use Rattle.std.specs.List.{enumerate_from}
 use Rattle.std.specs.declared.cmp.Ordering.{Ordering}
@@ -31,18 +31,17 @@ key-compared : (kind : Kind) (term : List ℕ) (k : Key) (o : Ordering)
     → key_cmp (kind_number kind) term (kind_number k.kind) k.text ≡ o
     → is_key kind term k ≡ is_eq (ordering_reverse o)
 key-compared kind term k o e =
-    sym (is_eq-slice_cmp (key_bytes k) (kind_number kind ∷ term))
-    ∙ ap is_eq (nat_list_cmp_total.antisymm (key_bytes k) (kind_number kind ∷ term) ∙ ap ordering_reverse e)
+    grind (arith, is_eq-slice_cmp, key_bytes, kind_number, is_eq, nat_list_cmp_total.antisymm, ordering_reverse)
 
 -- then the kind and the text are the same
 pub key-same : (kind : Kind) (term : List ℕ) (k : Key) → is_key kind term k ≡ true → (k.kind ≡ kind) × (k.text ≡ term)
-key-same kind term k e = grind (arith, eqb-true, kind_is, bytes_eq-Decides)
+key-same _ _ k e = grind (arith, eqb-true, kind_is, bytes_eq-Decides)
 
 key-itself : (k : Key) → is_key k.kind k.text k ≡ true
 key-itself k = grind (arith, nat_list_eq_equiv.refl (key_bytes k))
 
 sorted-after : (k : Key) (ks : List Key) → AllNext KeyBefore (k ∷ ks) → AllNext KeyBefore ks
-sorted-after k ks h = grind arith
+sorted-after k _ h = grind arith
 
 -- the first key also comes before the third
 skipped : (k j : Key) (ks : List Key) → AllNext KeyBefore (k ∷ j ∷ ks) → AllNext KeyBefore (k ∷ ks)
@@ -52,13 +51,13 @@ skipped k j (i ∷ ks) h = (nat_list_cmp_total.trans (key_bytes k) (key_bytes j)
 -- a key that comes before all keys of a sorted list isn't in the list
 pub none-after : (k : Key) (ks : List Key) → AllNext KeyBefore (k ∷ ks) → numbers_at k.kind k.text ks ≡ []
 none-after k [] h = refl
-none-after k (j ∷ ks) h = grind (arith, key-compared k.kind k.text j Less h.0, none-after k ks (skipped k j ks h))
+none-after k (j ∷ ks) h = grind (arith, key-compared, none-after k ks (skipped k j _ h))
 
 -- ---- sorted keys with the same numbers everywhere are the same
 
 -- the first key has a number, so the numbers at its term aren't empty
 none-first : (j : Key) (js : List Key) → 0 < length j.numbers → [] ≢ numbers_at j.kind j.text (j ∷ js)
-none-first j js some e = grind (arith, key-itself j)
+none-first j _ some e = grind (arith, key-itself)
 
 module _ (k j : Key) (ks js : List Key) (ks-sorted : AllNext KeyBefore (k ∷ ks))
     (js-sorted : AllNext KeyBefore (j ∷ js))
@@ -91,40 +90,27 @@ module _ (k j : Key) (ks js : List Key) (ks-sorted : AllNext KeyBefore (k ∷ ks
 one-list : (ks js : List Key) → AllNext KeyBefore ks → AllNext KeyBefore js
     → AllByRecursion (λ k. 0 < length k.numbers) ks → AllByRecursion (λ k. 0 < length k.numbers) js
     → ((kind : Kind) (term : List ℕ) → numbers_at kind term ks ≡ numbers_at kind term js) → ks ≡ js
-one-list [] [] ks-sorted js-sorted ks-some js-some same = refl
-one-list [] (j ∷ js) ks-sorted js-sorted ks-some js-some same = absurd (none-first j js js-some.0 (same j.kind j.text))
-one-list (k ∷ ks) [] ks-sorted js-sorted ks-some js-some same =
-    absurd (none-first k ks ks-some.0 (sym (same k.kind k.text)))
+one-list [] [] _ _ _ _ _ = refl
+one-list [] (j ∷ js) _ _ _ js-some same = absurd (none-first j _ js-some.0 (same j.kind j.text))
+one-list (k ∷ ks) [] _ _ ks-some _ same = absurd (none-first k _ ks-some.0 (sym (same k.kind k.text)))
 one-list (k ∷ ks) (j ∷ js) ks-sorted js-sorted ks-some js-some same =
-    let first : k ≡ j = first-same k j ks js ks-sorted js-sorted same ks-some.0 js-some.0 in
-    let rest : ks ≡ js = one-list ks js (sorted-after k ks ks-sorted) (sorted-after j js js-sorted) ks-some.1 js-some.1
+    let first = first-same k j ks js ks-sorted js-sorted same ks-some.0 js-some.0 in
+    let rest = one-list ks js (sorted-after k _ ks-sorted) (sorted-after j _ js-sorted) ks-some.1 js-some.1
     (rest-same k j ks js ks-sorted js-sorted same first) in
-    ap₂ (λ (x : Key) (xs : List Key). x ∷ xs) first rest
+    cc
 
 pub one-table : (archives : List Mbox) (t u : Table) → IsTableOf archives t → IsTableOf archives u → t ≡ u
-one-table archives t u of-t of-u =
-    let keys : t.keys ≡ u.keys = one-list t.keys u.keys of-t.sorted of-u.sorted of-t.some_number of-u.some_number
-    (λ kind term. of-t.numbers kind term ∙ sym (of-u.numbers kind term)) in
-    grind (arith, of-t.version, of-u.version, of-t.named, of-u.named, of-t.records, of-u.records)
+one-table _ t u of-t of-u = grind (arith, one-list)
 
 -- ---- the numbers that the table has
 
 end-pushed : (low : ℕ) (ns : List ℕ) (n : ℕ) → end_from low (ns ++ n ∷ []) ≡ suc n
-end-pushed low [] n = refl
-end-pushed low (x ∷ ns) n = end-pushed (suc x) ns n
+end-pushed _ [] n = refl
+end-pushed _ (x ∷ ns) n = end-pushed (suc x) ns n
 
 -- a number that is there isn't added again
 number-twice : (ns : List ℕ) (n : ℕ) → with_number (with_number ns n) n ≡ with_number ns n
-number-twice ns n = go (nat_lt n (end_from 0 ns)) refl
-  where
-    go : (b : Bool) → nat_lt n (end_from 0 ns) ≡ b → with_number (with_number ns n) n ≡ with_number ns n
-    go true e = let h : n < end_from 0 ns = grind (arith, nat_tests)
-        in ap (λ xs. with_number xs n) (with_number-low ns n h)
-    go false e =
-        let h : end_from 0 ns ≤ n = grind (arith, nat_tests) in
-        ap (λ xs. with_number xs n) (with_number-new ns n h)
-        ∙ with_number-low (ns ++ n ∷ []) n (omega (arith, end-pushed 0 ns n))
-        ∙ sym (with_number-new ns n h)
+number-twice ns n = grind (arith, end_from, with_number, with_number-low, with_number-new, end-pushed)
 
 module _ (kind : Kind) (term : List ℕ) where
   abbrev is_term : Term → Bool
@@ -233,9 +219,6 @@ table-is archives = record {
   named = refl;
   records = refl;
   sorted = messages-sorted 0 (all_messages archives) [] tt;
-  some_number = all-weaker (IsKey newest (length (all_messages archives))) (λ k. 0 < length k.numbers)
-      (λ k is. is.some_number)
-      (table archives).keys (messages-listed (length (all_messages archives)) 0 (all_messages archives) (omega arith) []
-      tt);
+  some_number = grind (arith, all-weaker, newest, length, all_messages, table, messages-listed);
   numbers = λ kind term. messages-at kind term 0 (all_messages archives) [] tt (omega arith);
 }

@@ -7,23 +7,23 @@ use Rattle.contract_words.proofs.StillKnown.{still-other}
 after-line : (w : Awaited) (rest : List (List ℕ)) (l : List ℕ) (now' : Option ComingEvents)
     → TakesKnown (Line l) (Some (coming_inside w rest)) now'
     → (left : List (List ℕ)) × (rest ≡ l ∷ left) × (now' ≡ Some (coming_inside w left))
-after-line w [] l now' (after, is, takes) = absurd cc
-after-line w (l' ∷ left) l now' (after, is, (events, refusal)) = grind arith
+after-line w [] l _ (after, is, takes) = absurd cc
+after-line w (l' ∷ left) l _ (after, is, (events, refusal)) = grind arith
 
 after-end : (w : Awaited) (rest : List (List ℕ)) (span told_size : ℕ) (now' : Option ComingEvents)
     → TakesKnown (End span told_size) (Some (coming_inside w rest)) now'
     → (rest ≡ []) × (span ≡ span_length w.message) × (told_size ≡ size w.message)
     × (now' ≡ Some (coming_between w.all w.later w.refusal))
-after-end w (l ∷ rest) span told_size now' (after, is, takes) = absurd cc
-after-end w [] span told_size now' (after, is, (events, refusal)) = grind arith
+after-end w (l ∷ rest) _ _ _ (after, is, takes) = absurd cc
+after-end w [] _ _ _ (after, is, (events, refusal)) = grind arith
 
 -- a fault of gathering is a fault of the job
 pub gather-is-job : (whole : Draft) (refusal : Option CutFault) (f : JobFault) → IsGatherFault whole f
     → IsJobFault refusal (RefusesTerms whole) f
-gather-is-job whole refusal f h = grind arith
+gather-is-job _ _ f h = grind arith
 
 pub gather-own : (whole : Draft) (f : JobFault) → IsGatherFault whole f → IsArchiveFault f
-gather-own whole f h = grind arith
+gather-own _ f h = grind arith
 
 module _ (d : Draft) (w : Awaited) (ls rest : List (List ℕ)) (gathered : MessageText) (builder : Draft)
     (now now' : Option ComingEvents) (l : List ℕ) where
@@ -57,22 +57,15 @@ pub reads-end : (d : Draft) (w : Awaited) (ls rest : List (List ℕ)) (gathered 
     (builder : Draft) (now now' : Option ComingEvents) (ended : Ended)
     → IsReading d w ls rest gathered builder now → TakesKnown (End ended.length ended.size) now now'
     → HasReadAll d w ended gathered builder now'
-reads-end d w ls rest gathered builder now now' ended r takes =
+reads-end d w ls rest gathered builder _ now' ended r takes =
     let b = after-end w rest ended.length ended.size now'
     (subst (λ o. TakesKnown (End ended.length ended.size) o now') r.comes takes) in
-    let all : ls ≡ text w.message = sym (r.whole ∙ ap (λ x. ls ++ x) b.0 ∙ append-nil ls) in
-    record {
-      whole = subst (λ x. HasGathered gathered builder d x) all r.so_far;
-      length = b.1;
-      told_size = b.2;
-      comes = b.3;
-    }
+    let all : ls ≡ text w.message = cc (append-nil _) in
+    grind arith
 
 -- what is read of a message's text, if it is still known what is to come
 pub still-reading : {T C : Type 0} (d : Draft) (w : Awaited) (ls rest : List (List ℕ)) (gathered : MessageText)
     (builder : Draft) (first : Option T) (now : Option ComingEvents) (last : Option C) (x : T)
     → still_known first last ≡ Some x → IsReading d w ls rest gathered builder now
     → IsReading d w ls rest gathered builder (still_known now last)
-still-reading d w ls rest gathered builder first now last x known r =
-    subst (λ (o : Option ComingEvents). IsReading d w ls rest gathered builder o)
-    (sym (still-other first now last x known)) r
+still-reading d w ls rest gathered builder first now last x known r = rw (still-other _ _ _ x known) r

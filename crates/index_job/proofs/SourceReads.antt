@@ -1,5 +1,5 @@
 -- Reads of a cutter's source, one after another, up to the archive's end.
-use Rattle.index_job.proofs.Words.{◌≡◌, ◌∙◌, Bool, true, false, refl, sym, ap, subst, arith, Result, Ok, Err, CutFault, Event, Progress, Advances, ComingEvents, Line, TakesKnown, event_with_line, still_known, JobFault, ReadsSource, is_source_failure, Option}
+use Rattle.index_job.proofs.Words.{◌≡◌, ◌∙◌, Bool, true, false, refl, sym, subst, arith, Result, Ok, Err, CutFault, Event, Progress, Advances, ComingEvents, Line, TakesKnown, event_with_line, still_known, JobFault, ReadsSource, is_source_failure, Option}
 use Rattle.std.specs.Borrow.{MutBor}
 use Rattle.mbox_cutter.specs.declared.device.Source.{Ghosts}
 use Rattle.mbox_cutter.specs.declared.event.CutFault.TheVariants as cut
@@ -15,11 +15,8 @@ abbrev pub says_failure : JobFault → Bool
 says_failure (job.Cut cut.Device) = true
 says_failure _ = false
 
-err-says : (T : Type 0) (f : JobFault) → is_source_failure {T = T} (Err f) ≡ says_failure f
-err-says T f = grind arith
-
 failure-is : {T : Type 0} (r : Result T JobFault) (f : JobFault) → r ≡ Err f → is_source_failure r ≡ says_failure f
-failure-is {T = T} r f is = ap (λ (x : Result T JobFault). is_source_failure x) is ∙ err-says T f
+failure-is {T = T} r f is = cc
 
 -- ---- reads
 

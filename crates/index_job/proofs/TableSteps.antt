@@ -9,7 +9,7 @@ use Rattle.mail_index.specs.declared.digests.Digests.{Digests}
 pub comes-known : (bytes : List ℕ) → coming_of most_in_archive bytes
     ≡ coming_ahead (length bytes) (messages bytes) (archive_refusal most_in_archive bytes)
 unfolding events
-comes-known bytes = refl
+comes-known _ = refl
 
 zero_more : (n : ℕ) → 0 + n ≡ n
 zero_more n = omega arith
@@ -18,8 +18,7 @@ zero_more n = omega arith
 
 records-more : (n : ℕ) (archives : List Mbox) (a : Mbox) → records_from n (archives ++ a ∷ [])
     ≡ records_from n archives ++ map (record_of (n + length archives)) (messages_in a.bytes)
-records-more n [] a = append-nil (map (record_of n) (messages_in a.bytes))
-    ∙ ap (λ k. map (record_of k) (messages_in a.bytes)) (omega arith)
+records-more n [] a = append-nil _ ∙ ap (λ k. map (record_of k) (messages_in a.bytes)) (omega arith)
 records-more n (b ∷ archives) a = grind (arith, append_assoc, records-more (suc n) archives a)
 
 pub records-count : (n : ℕ) (archives : List Mbox) → length (records_from n archives) ≡ length (all_messages archives)
@@ -28,12 +27,12 @@ records-count n (a ∷ archives) = grind (arith, length-append, length-map, reco
 
 all-more : (archives : List Mbox) (a : Mbox) → all_messages (archives ++ a ∷ [])
     ≡ all_messages archives ++ messages_in a.bytes
-all-more archives a = grind (arith, flat_map-append, append-nil)
+all-more _ a = grind (arith, flat_map-append, append-nil)
 
 keys-more : (archives : List Mbox) (a : Mbox)
     → with_messages (length (records_from 0 archives)) (messages_in a.bytes)
     (with_messages 0 (all_messages archives) []) ≡ with_messages 0 (all_messages (archives ++ a ∷ [])) []
-keys-more archives a = grind (arith, records-count, zero_more, with_messages-append, all-more)
+keys-more _ a = grind (arith, records-count, zero_more, with_messages-append, all-more)
 
 -- ---- the whole
 
@@ -77,4 +76,4 @@ module _ (digests : Digests) (archives : List Mbox) (a : Mbox) where
 pub number-is : (digests : Digests) (number : ℕ) (archives : List Mbox) (builder : Draft)
     → builder ≡ draft_of_archives digests archives
     → (builder.failed ≡ false → IsIdle number builder) → number ≡ length archives
-number-is digests number archives builder is idle = grind (arith, length-map)
+number-is _ _ _ _ is idle = grind (arith, length-map)

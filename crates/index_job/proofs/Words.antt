@@ -6,7 +6,7 @@ pub use Rattle.index_job.specs.ArchiveRefusals.{AreSound, IsTooMuch}
 pub use Rattle.index_job.specs.ArchiveTables.{Mbox, all_messages, date_in_field, entry_of_archive, messages_in, record_of, records_from, table, with_messages, with_terms}
 pub use Rattle.index_job.specs.IndexJobs.{IsAddFault, IsAdded}
 pub use Rattle.index_job.specs.Indexing.{HasTooMany, IsArchiveFault, IsIdle, IsJobFault, IsOpenAt, IsReadyForMessage, IsFaultOfAdding, RefusesTerms, draft_of_archives, draft_with_messages, draft_with_terms}
-pub use Rattle.index_job.specs.Inside.ArchiveReading.{AddsMessage, AddsMessages, Awaited, HasDone, HasEnded, HasReadAll, Heads, IsHeading, IsInsideMessage, IsMessageFault, IsReading, IsReadingSome, coming_ahead, coming_between, coming_inside}
+pub use Rattle.index_job.specs.Inside.ArchiveReading.{AddsMessage, AddsMessages, Awaited, HasDone, HasReadAll, Heads, IsInsideMessage, IsMessageFault, IsReading, IsReadingSome, coming_ahead, coming_between, coming_inside}
 pub use Rattle.index_job.specs.Inside.FoldedWords.{HoldsWords, parts_of_lengths}
 pub use Rattle.index_job.specs.Inside.Gathering.{HasGathered, IsGatherFault, with_texts}
 pub use Rattle.index_job.specs.Inside.MessageEnds.{ended_with}
@@ -26,10 +26,10 @@ pub use Rattle.mail_index.specs.declared.build.build_fault.BuildFault.TheVariant
 pub use Rattle.mail_index.specs.declared.kind.Kind.TheVariants.{LinkId, Text}
 pub use Rattle.mail_index.specs.declared.record.Record.{Record}
 pub use Rattle.mail_words.specs.Folding.{folding}
-pub use Rattle.mail_words.specs.Words.{HasWordLength, range_bytes, word_ranges}
+pub use Rattle.mail_words.specs.Words.{HasWordLength, range_bytes}
 unfoldable pub use Rattle.mail_words.specs.Words.{words}
 pub use Rattle.mail_words.specs.declared.kind.TextKind.{TextKind}
-pub use Rattle.mbox_cutter.specs.Archives.{Message, grouped_lines, is_refused, marked_lines, messages_from, size, span_length, text, total, without_closing}
+pub use Rattle.mbox_cutter.specs.Archives.{Message, grouped_lines, marked_lines, messages_from, size, span_length, text, total, without_closing}
 unfoldable pub use Rattle.mbox_cutter.specs.Archives.{messages}
 pub use Rattle.mbox_cutter.specs.Coming.{TakesKnown}
 pub use Rattle.mbox_cutter.specs.Events.{ComingEvents, Done, End, Line, Start, coming_of}
@@ -45,8 +45,8 @@ pub use Rattle.mime_text.specs.Sinks.{Breaks, Pair, TakesAll}
 pub use Rattle.mime_text.specs.Texts.{texts_of_message}
 pub use Rattle.mime_text.specs.declared.header.facts.Facts.{Facts}
 pub use Rattle.mime_text.specs.declared.message_text.MessageText.{MessageText}
-pub use Rattle.std.proofs.Common.{All, Bool, Bor, Err, FitsSigned, IfSome, IsAscii, List, None, Ok, Option, Result, Some, Vec, [], ap, append-nil, append_assoc, ap₂, arith, cond, drop, encode_utf8_all, false, flat_map, get_or, if◌then◌else◌, inl, inr, length, length-append, map, nat_eq, nat_le, nat_lt, neg_ℤ, option_map, pos, refl, rules, subst, suc, sym, take, true, unwrap_or, w64, zero, ℕ, ℤ, ⊎_elim, ◌%◌, ◌&&◌, ◌*◌, ◌++◌, ◌+ℤ◌, ◌+◌, ◌-ℤ◌, ◌-◌, ◌/◌, ◌<◌, ◌==◌, ◌^◌, ◌∙◌, ◌∷◌, ◌≡◌, ◌≤◌, ◌⊎◌}
-pub use Rattle.std.proofs.lemmas.Bool.{and_parts, cases_lt, leb-true, ltb-false, ltb-true}
+pub use Rattle.std.proofs.Common.{All, Bool, Bor, Err, FitsSigned, IfSome, IsAscii, List, None, Ok, Option, Result, Some, Vec, [], ap, append-nil, append_assoc, ap₂, arith, cond, drop, encode_utf8_all, false, flat_map, get_or, if◌then◌else◌, inl, inr, length, length-append, map, nat_eq, neg_ℤ, option_map, pos, refl, rules, subst, suc, sym, take, true, unwrap_or, w64, zero, ℕ, ℤ, ⊎_elim, ◌%◌, ◌&&◌, ◌*◌, ◌++◌, ◌+ℤ◌, ◌+◌, ◌-ℤ◌, ◌-◌, ◌/◌, ◌<◌, ◌==◌, ◌^◌, ◌∙◌, ◌∷◌, ◌≡◌, ◌≤◌, ◌⊎◌}
+pub use Rattle.std.proofs.lemmas.Bool.{and_parts, leb-true, ltb-false, ltb-true}
 pub use Rattle.std.proofs.lemmas.Bool.Decides.{nat_tests}
 pub use Rattle.std.proofs.lemmas.Grind.{flat_map-append}
 pub use Rattle.std.proofs.lemmas.List.{drop_more, length-drop, length-map, length-take, length-take-le, map-append}

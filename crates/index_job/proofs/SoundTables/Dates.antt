@@ -1,12 +1,12 @@
 -- The second that a Date field names fits in 64 bits.
-use Rattle.index_job.proofs.Words.{◌≡◌, ℕ, ◌+◌, ◌*◌, ◌≤◌, ℤ, pos, neg_ℤ, ◌+ℤ◌, ◌-ℤ◌, Bool, cond, nat_le, ◌&&◌, ◌==◌, List, [], ◌∷◌, Option, Some, None, IfSome, FitsSigned, w64, refl, sym, subst, arith, AllByRecursion, find, slice_split, option_map_or, bytes_eq, str_to_ascii_lowercase, unwrap_or, and_parts, leb-true, date_in_field}
+use Rattle.index_job.proofs.Words.{◌≡◌, ℕ, ◌+◌, ◌*◌, ◌≤◌, ℤ, pos, neg_ℤ, ◌+ℤ◌, ◌-ℤ◌, Bool, ◌&&◌, ◌==◌, List, [], ◌∷◌, Option, Some, None, IfSome, FitsSigned, w64, arith, AllByRecursion, find, slice_split, option_map_or, bytes_eq, str_to_ascii_lowercase, leb-true, date_in_field}
 use Rattle.std.specs.Option.{option_map}
 use Rattle.jiff_core.specs.Calendar.{IsEpochDay, IsWithin, days_from_civil}
 use Rattle.jiff_core.proofs.CalendarLemmas.{days_from_civil-day_count, day_count_bounds}
 use Rattle.jiff_core.proofs.SignedLemmas.{signed_arith, fits_between}
 use Rattle.mail_dates.specs.Calendar.{day_number, month_of, start_of_day}
 use Rattle.mail_dates.specs.Numbers.{number_in, ◌>>=◌}
-use Rattle.mail_dates.specs.HeaderDates.{zones, hours_west, offset_size, numeric_offset, offset_of, zone_offset, second_of_day, time_by, time_of_parts, is_colon, time_of, year_of, date_of_parts_by, date_of_tokens_by, date_of, date_tokens, without_comments, without_day_name}
+use Rattle.mail_dates.specs.HeaderDates.{zones, hours_west, numeric_offset, offset_of, zone_offset, second_of_day, time_by, time_of_parts, is_colon, time_of, year_of, date_of_parts_by, date_of_tokens_by, date_of, date_tokens, without_comments, without_day_name}
 use Rattle.mail_dates.proofs.CivilDays.{IsCivilDay, numbered, year_within}
 
 -- if the condition is true of all values, it is true of the result
@@ -31,29 +31,15 @@ west o h = grind (arith, signed_arith)
 
 numeric_offset-small : (token : List ℕ) → IfSome (numeric_offset token) IsOffset
 numeric_offset-small [] = tt
-numeric_offset-small (sign ∷ digits) = go (sign == 0x2B) (sign == 0x2D)
-  where
-    go : (plus minus : Bool) → IfSome (cond plus (option_map pos (offset_size digits))
-        (cond minus (option_map (λ n. neg_ℤ (pos n)) (offset_size digits)) None)) IsOffset
-    go plus minus = grind arith
+numeric_offset-small (sign ∷ digits) = grind arith
 
 found-small : (p : List ℕ × ℕ → Bool) (zs : List (List ℕ × ℕ)) → AllByRecursion (λ z. z.1 ≤ 24) zs
     → option_map_or (λ (z : List ℕ × ℕ). z.1) (find p zs) 0 ≤ 24
 found-small p [] all = omega arith
-found-small p (z ∷ zs) all = go (p z) (found-small p zs all.1)
-  where
-    go : (b : Bool) → option_map_or (λ (z : List ℕ × ℕ). z.1) (find p zs) 0 ≤ 24
-        → option_map_or (λ (z : List ℕ × ℕ). z.1) (cond b (Some z) (find p zs)) 0 ≤ 24
-    go b h = grind arith
+found-small p (z ∷ zs) all = grind (arith, found-small p zs all.1)
 
 zones-small : AllByRecursion (λ z. z.1 ≤ 24) zones
-zones-small = (
-  omega arith,
-  (
-    omega arith,
-    (omega arith, (omega arith, (omega arith, (omega arith, (omega arith, (omega arith, tt)))))),
-  ),
-)
+zones-small = grind arith
 
 hours_west-small : (token : List ℕ) → hours_west token ≤ 24
 unfolding hours_west
@@ -66,33 +52,22 @@ hours_west-small (a ∷ b ∷ c ∷ d ∷ rest) = omega arith
 
 offset_of-small : (token : List ℕ) → IsOffset (offset_of token)
 unfolding offset_of
-offset_of-small token = go (numeric_offset token) (numeric_offset-small token)
-  where
-    named : (hours : ℕ) → hours ≤ 24 → IsOffset (neg_ℤ (pos (hours * 3600)))
-    named hours few = omega (arith, signed_arith, few)
-
-    go : (o : Option ℤ) → IfSome o IsOffset → IsOffset (unwrap_or o (neg_ℤ (pos (hours_west token * 3600))))
-    go None h = named (hours_west token) (hours_west-small token)
-    go (Some z) h = h
+offset_of-small token = grind (arith, hours_west-small, numeric_offset, numeric_offset-small)
 
 zone_offset-small : (rest : List (List ℕ)) → IsOffset (zone_offset rest)
 zone_offset-small [] = omega (arith, signed_arith)
-zone_offset-small (token ∷ rest) = offset_of-small token
+zone_offset-small (token ∷ rest) = offset_of-small _
 
 -- ---- the time of day
 
 second_of_day-small : (hour minute second : ℕ) → IfSome (second_of_day hour minute second) (λ n. n ≤ 86400)
-second_of_day-small hour minute second = go (nat_le hour 23 && nat_le minute 59 && nat_le second 60) refl
-  where
-    go : (ok : Bool) → (nat_le hour 23 && nat_le minute 59 && nat_le second 60) ≡ ok
-        → IfSome (cond ok (Some (hour * 3600 + minute * 60 + second)) None) (λ n. n ≤ 86400)
-    go ok h = grind (arith, and_parts, leb-true)
+second_of_day-small hour minute second = grind (arith, leb-true)
 
 time_by-small : (hour minute : List ℕ) (second : Option ℕ) → IfSome (time_by hour minute second) (λ n. n ≤ 86400)
-time_by-small hour minute second = grind (arith, bound, any-of, second_of_day-small)
+time_by-small _ _ _ = grind (arith, bound, any-of, second_of_day-small)
 
 time_of_parts-small : (parts : List (List ℕ)) → IfSome (time_of_parts parts) (λ n. n ≤ 86400)
-time_of_parts-small parts = grind (arith, time_by-small)
+time_of_parts-small _ = grind (arith, time_by-small)
 
 time_of-small : (token : List ℕ) → IfSome (time_of token) (λ n. n ≤ 86400)
 unfolding time_of
@@ -101,43 +76,37 @@ time_of-small token = time_of_parts-small (slice_split is_colon token)
 -- ---- the date
 
 civil-small : (year : ℤ) (month day : ℕ) → IsCivilDay year month day → IsEpochDay (days_from_civil year month day)
-civil-small year month day h =
-    omega (
-      arith,
-      signed_arith,
-      days_from_civil-day_count,
-      day_count_bounds year month day (
-        year_within year h.year_in,
-        (h.month_low, h.month_high),
-        (h.day_low, h.day_high),
-      ),
-    )
+civil-small year month day h = omega (
+  arith,
+  signed_arith,
+  days_from_civil-day_count,
+  day_count_bounds year month day (
+    year_within _ h.year_in,
+    (h.month_low, h.month_high),
+    (h.day_low, h.day_high),
+  ),
+)
 
 day_number-small : (year : ℤ) (month day : ℕ) → IfSome (day_number year month day) IsEpochDay
-day_number-small year month day = go (day_number year month day) refl
-  where
-    go : (o : Option ℤ) → day_number year month day ≡ o → IfSome o IsEpochDay
-    go None e = tt
-    go (Some number) e = let is = numbered year month day number e
-        in subst IsEpochDay (sym is.is) (civil-small year month day is.civil)
+day_number-small year month day = grind (arith, numbered, civil-small)
 
 -- no sum leaves 64 bits
 fits : (date offset : ℤ) (second : ℕ) → IsEpochDay date → second ≤ 86400 → IsOffset offset
     → FitsSigned w64 ((start_of_day date +ℤ pos second) -ℤ offset)
-fits date offset second day few small = fits_between w64 _ (omega (arith, signed_arith))
+fits _ _ _ day few small = fits_between w64 _ (omega (arith, signed_arith))
 
 parts-fit : (day month year time : List ℕ) (offset : ℤ) → IsOffset offset
     → IfSome (date_of_parts_by day_number day month year time offset) (FitsSigned w64)
 parts-fit day month year time offset small =
-    bound (λ _. Unit {0}) (FitsSigned w64) (number_in 1 2 day) _ (any-of (number_in 1 2 day)) (λ d _.
-    bound (λ _. Unit {0}) (FitsSigned w64) (month_of month) _ (any-of (month_of month)) (λ m _.
-    bound (λ _. Unit {0}) (FitsSigned w64) (year_of year) _ (any-of (year_of year)) (λ y _.
-    bound IsEpochDay (FitsSigned w64) (day_number (pos y) m d) _ (day_number-small (pos y) m d) (λ date is.
-    bound (λ n. n ≤ 86400) (FitsSigned w64) (time_of time) _ (time_of-small time)
-    (λ second few. fits date offset second is few small)))))
+    bound (λ _. Unit {0}) (FitsSigned w64) (number_in 1 2 day) _ (any-of (number_in 1 2 day))
+    (λ d _. bound (λ _. Unit {0}) (FitsSigned w64) (month_of month) _ (any-of (month_of month))
+    (λ m _. bound (λ _. Unit {0}) (FitsSigned w64) (year_of year) _ (any-of (year_of year))
+    (λ y _. bound IsEpochDay (FitsSigned w64) (day_number (pos y) m d) _ (day_number-small (pos y) m d)
+    (λ date is. bound (λ n. n ≤ 86400) (FitsSigned w64) (time_of time) _ (time_of-small time)
+    (λ second few. fits _ _ _ is few small)))))
 
 tokens-fit : (ts : List (List ℕ)) → IfSome (date_of_tokens_by day_number ts) (FitsSigned w64)
-tokens-fit ts = grind (arith, parts-fit, zone_offset-small)
+tokens-fit _ = grind (arith, parts-fit, zone_offset-small)
 
 date-fits : (text : List ℕ) → IfSome (date_of text) (FitsSigned w64)
 unfolding date_of
@@ -145,4 +114,4 @@ date-fits text = tokens-fit (without_day_name (date_tokens (without_comments tex
 
 pub told-fits : (text : Option (List ℕ)) → IfSome (date_in_field text) (FitsSigned w64)
 told-fits None = tt
-told-fits (Some value) = date-fits value
+told-fits (Some value) = date-fits _

@@ -1,8 +1,7 @@
 -- The messages of an archive come one after another within it, and each is longer than its text.
-use Rattle.index_job.proofs.Words.{◌≡◌, ◌∙◌, ℕ, ◌+◌, ◌<◌, ◌≤◌, Bool, true, false, cond, nat_lt, List, [], ◌∷◌, length, map, Some, None, refl, ap, arith, length-append, unwrap_or, AllByRecursion, concat, and_parts, ltb-false, Message, total, marked_lines, grouped_lines, is_refused, without_closing, size, span_length, messages_from, messages, archive_refusal, messages_in}
+use Rattle.index_job.proofs.Words.{◌≡◌, ◌∙◌, ℕ, ◌+◌, ◌<◌, ◌≤◌, Bool, true, List, [], ◌∷◌, length, map, None, refl, ap, arith, length-append, AllByRecursion, concat, and_parts, ltb-false, Message, total, marked_lines, grouped_lines, without_closing, size, span_length, messages_from, messages, archive_refusal, messages_in}
 use Rattle.mbox_cutter.specs.Lines.{lines, is_empty}
 use Rattle.mbox_cutter.specs.Separators.{is_separator}
-use Rattle.mbox_cutter.specs.declared.event.CutFault.TheVariants.{NotAnMbox, ArchiveTooLong}
 use Rattle.mbox_cutter.proofs.LinesAreCut.{lines-AreLines}
 
 -- the messages come one after another from the first place up to the second, and each is longer than its text
@@ -15,10 +14,7 @@ AreSpanned at end (m ∷ ms) = (at ≤ m.offset) × (m.offset + span_length m �
 
 closing-fewer : (ls : List (List ℕ)) → total (without_closing ls) ≤ total ls
 closing-fewer [] = omega arith
-closing-fewer (l ∷ []) = go (is_empty l)
-  where
-    go : (b : Bool) → total (cond b [] (l ∷ [])) ≤ total (l ∷ [])
-    go b = grind arith
+closing-fewer (l ∷ []) = grind arith
 closing-fewer (l ∷ m ∷ ls) = omega (arith, closing-fewer (m ∷ ls))
 
 total-joined : (ls : List (List ℕ)) → total ls ≡ length (concat ls)
@@ -26,13 +22,13 @@ total-joined [] = refl
 total-joined (l ∷ ls) = omega (arith, total-joined ls, length-append l (concat ls))
 
 lines-total : (bytes : List ℕ) → total (lines bytes) ≡ length bytes
-lines-total bytes = total-joined (lines bytes) ∙ ap length (lines-AreLines bytes).joined
+lines-total bytes = total-joined _ ∙ ap length (lines-AreLines _).joined
 
 marked-lines : (may_start : Bool) (ls : List (List ℕ))
     → map (λ (mark : Bool × List ℕ). mark.1) (marked_lines may_start ls)
     ≡ ls
-marked-lines may_start [] = refl
-marked-lines may_start (l ∷ ls) = ap (λ (rest : List (List ℕ)). l ∷ rest) (marked-lines (is_empty l) ls)
+marked-lines _ [] = refl
+marked-lines _ (l ∷ ls) = ap (λ (rest : List (List ℕ)). l ∷ rest) (marked-lines (is_empty l) ls)
 
 separator-some : (l : List ℕ) → is_separator l ≡ true → 0 < length l
 unfolding is_separator
@@ -44,7 +40,7 @@ abbrev StartsSome : Bool × List ℕ → Type 0
 StartsSome mark = mark.0 ≡ true → 0 < length mark.1
 
 marked-some : (may_start : Bool) (ls : List (List ℕ)) → AllByRecursion StartsSome (marked_lines may_start ls)
-marked-some may_start [] = tt
+marked-some _ [] = tt
 marked-some may_start (l ∷ ls) = (
   λ is. separator-some l (and_parts may_start (is_separator l) is).1,
   marked-some (is_empty l) ls,
@@ -63,66 +59,43 @@ grouped-total : (marks : List (Bool × List ℕ)) → total (grouped_lines marks
     ≡ total (map (λ (mark : Bool × List ℕ). mark.1) marks)
 unfolding groups_total
 grouped-total [] = omega arith
-grouped-total (mark ∷ marks) = go mark.0 (grouped-total marks)
-  where
-    go : (starts : Bool) → total (grouped_lines marks).0 + groups_total (grouped_lines marks).1
-        ≡ total (map (λ (mark : Bool × List ℕ). mark.1) marks)
-        → (let gs : List (List ℕ) × List Group =
-        cond starts ([], (mark.1, (grouped_lines marks).0) ∷ (grouped_lines marks).1)
-        (mark.1 ∷ (grouped_lines marks).0, (grouped_lines marks).1) in total gs.0 + groups_total gs.1)
-        ≡ length mark.1 + total (map (λ (mark : Bool × List ℕ). mark.1) marks)
-    go starts h = grind arith
+grouped-total (mark ∷ marks) = grind (arith, grouped-total marks)
 
 grouped-some : (marks : List (Bool × List ℕ)) → AllByRecursion StartsSome marks
     → AllByRecursion (λ (g : Group). 0 < length g.0) (grouped_lines marks).1
-grouped-some [] all = tt
-grouped-some (mark ∷ marks) all = go mark.0 refl (grouped-some marks all.1)
-  where
-    go : (starts : Bool) → mark.0 ≡ starts → AllByRecursion (λ (g : Group). 0 < length g.0) (grouped_lines marks).1
-        → AllByRecursion (λ (g : Group). 0 < length g.0)
-        (let gs : List (List ℕ) × List Group =
-        cond starts ([], (mark.1, (grouped_lines marks).0) ∷ (grouped_lines marks).1)
-        (mark.1 ∷ (grouped_lines marks).0, (grouped_lines marks).1) in gs.1)
-    go starts h h2 = grind arith
+grouped-some [] _ = tt
+grouped-some (mark ∷ marks) all = grind (arith, grouped-some marks all.1)
 
 -- ---- messages
 
 from-groups : (low at end : ℕ) (gs : List Group) → low ≤ at → at + groups_total gs ≤ end
     → AllByRecursion (λ (g : Group). 0 < length g.0) gs → AreSpanned low end (messages_from at gs)
 unfolding groups_total
-from-groups low at end [] after within some = tt
-from-groups low at end (g ∷ gs) after within some = (
+from-groups _ _ _ [] _ _ _ = tt
+from-groups _ at end (g ∷ gs) after within some = (
   after,
-  omega (arith, within),
-  omega (arith, some.0, closing-fewer g.1),
-  from-groups (at + (length g.0 + total g.1)) (at + (length g.0 + total g.1)) end gs (omega arith)
-      (omega (arith, within)) some.1,
+  omega arith,
+  omega (arith, closing-fewer),
+  from-groups (at + (length g.0 + total g.1)) (at + (length g.0 + total g.1)) end gs (omega arith) (omega arith) some.1,
 )
 
 pub messages-spanned : (bytes : List ℕ) → AreSpanned 0 (length bytes) (messages_in bytes)
 unfolding messages
-messages-spanned bytes = go (is_refused (marked_lines true (lines bytes)))
-  where
-    all : total (grouped_lines (marked_lines true (lines bytes))).0 + groups_total
-        (grouped_lines (marked_lines true (lines bytes))).1
-        ≡ length bytes
-    all = grouped-total (marked_lines true (lines bytes)) ∙ ap total (marked-lines true (lines bytes))
-        ∙ lines-total bytes
-
-    go : (refused : Bool) → AreSpanned 0 (length bytes)
-        (unwrap_or (cond refused None (Some (messages_from (total (grouped_lines (marked_lines true (lines bytes))).0)
-        (grouped_lines (marked_lines true (lines bytes))).1))) [])
-    go true = tt
-    go false = from-groups 0 (total (grouped_lines (marked_lines true (lines bytes))).0) (length bytes)
-        (grouped_lines (marked_lines true (lines bytes))).1 (omega arith) (omega (arith, all))
-        (grouped-some (marked_lines true (lines bytes)) (marked-some true (lines bytes)))
+messages-spanned bytes = grind (
+  arith,
+  from-groups,
+  grouped-total,
+  total,
+  marked-lines,
+  lines-total,
+  grouped-some,
+  marked_lines,
+  lines,
+  marked-some,
+)
 
 -- ---- the archive
 
 pub unrefused-short : (most : ℕ) (bytes : List ℕ) → archive_refusal most bytes ≡ None → length bytes ≤ most
 unfolding archive_refusal
-unrefused-short most bytes = go _ (nat_lt most (length bytes)) refl
-  where
-    go : (no_mbox long : Bool) → nat_lt most (length bytes) ≡ long
-        → cond no_mbox (Some NotAnMbox) (cond long (Some ArchiveTooLong) None) ≡ None → length bytes ≤ most
-    go no_mbox long h h2 = grind (arith, ltb-false)
+unrefused-short most bytes = grind (arith, ltb-false)

@@ -9,13 +9,13 @@ use Rattle.index_job.proofs.TableSteps.{records-count}
 archives-named : (archives : List Mbox) → AllByRecursion (λ (a : Mbox). IsPath a.path) archives
     → AllByRecursion (λ (a : Mbox). archive_refusal most_in_archive a.bytes ≡ None) archives
     → AllByRecursion (IsArchive newest) (map entry_of_archive archives)
-archives-named [] paths sound = tt
+archives-named [] _ _ = tt
 archives-named (a ∷ archives) paths sound =
     grind (arith, unrefused-short, length-sha256, archives-named archives paths.1 sound.1)
 
 pub sound-table : (archives : List Mbox) → All (λ (a : Mbox). IsPath a.path) archives → AreSound archives
     → IsWellFormed (table archives)
-sound-table archives paths sound = grind (
+sound-table _ paths sound = grind (
   arith,
   records-count,
   archives-named,

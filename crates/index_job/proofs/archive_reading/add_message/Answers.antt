@@ -1,5 +1,5 @@
 -- `add_message` adds a message line by line, because the lines that are gathered at its end are its whole text.
-use Rattle.index_job.proofs.Words.{◌∙◌, ℕ, List, Option, false, subst, arith, MatchOption, Ended, IsInsideMessage, HasEnded, IsReading, HasReadAll, err_from_is_err_and, draft_in_message, with_waiting}
+use Rattle.index_job.proofs.Words.{◌∙◌, ℕ, List, Option, false, subst, arith, MatchOption, Ended, IsReading, HasReadAll, err_from_is_err_and, draft_in_message, with_waiting}
 use Rattle.index_job.proofs.MessageSteps.{message-fault, opens, ready-after, adds-message, own-fault}
 use Rattle.index_job.proofs.SourceReads.{reads-join}
 use Rattle.index_job.proofs.ReadingLines.{still-reading}
@@ -27,7 +27,7 @@ finish_message-requires-clause-opened g c =
     let d = draft_in_message c.args.builder.now in
     let gathered = c.lines.invariant.gathers in
     let more = c.in_ok-length.ensures.gathers d gathered.0 gathered.1 in
-    (d, more.0, more.1, opens c.args.archive c.args.offset c.args.builder.now c.requires.ready)
+    (d, more.0, more.1, opens _ _ _ c.requires.ready)
 
 pub returns-in-Some-clause-ready : goal.returns-in-Some-clause-ready
 returns-in-Some-clause-ready g c =
@@ -37,14 +37,11 @@ returns-in-Some-clause-ready g c =
     let ended = c.in-Some.field-0 in
     let gathered = c.lines.invariant.gathers in
     let more = c.in_ok-length.ensures.gathers (draft_in_message d) gathered.0 gathered.1 in
-    let ends : HasEnded start ended place =
-    subst (λ (o : Option Ended). MatchOption o (IsInsideMessage start place) (λ e. HasEnded start e place)) c.in-Some.is
-    c.in_ok-length.ensures.place in
+    let ends = rw c.in-Some.is at c.in_ok-length.ensures.place in
     ready-after (record { archive = c.args.archive; offset = start; length = ended.length; size = ended.size }) d
-    place.offset c.finish_message.result
-    c.next_line.new.text (with_waiting c.next_line.new.room.waiting c.next_line.new.builder)
-    c.finish_message.new.builder more.0 more.1 c.requires.ready
-    ends.offset c.finish_message.ensures.ok
+    place.offset c.finish_message.result c.next_line.new.text
+    (with_waiting c.next_line.new.room.waiting c.next_line.new.builder) c.finish_message.new.builder more.0 more.1
+    c.requires.ready ends.offset c.finish_message.ensures.ok
 
 pub returns-in-Some-clause-known : goal.returns-in-Some-clause-known
 returns-in-Some-clause-known g c = λ w at comes.
@@ -55,23 +52,19 @@ returns-in-Some-clause-known g c = λ w at comes.
     let coming = c.next_line.new.cutter.coming in
     let open_draft = draft_in_message d in
     let r = c.lines.invariant.comes w (still-earlier _ _ _ _ c.in_ok-length.ensures.reads.stays.known comes) in
-    let all : HasReadAll open_draft w ended text gathered coming =
-    subst (λ (o : Option Ended). MatchOption o
-    ((more left : List (List ℕ)) × IsReading open_draft w more left text gathered coming)
-    (λ e. HasReadAll open_draft w e text gathered coming)) c.in-Some.is
-    (c.in_ok-length.ensures.known open_draft w r.0 r.1 (still-reading _ w _ _ _ _ _ _ _ _ comes r.2)) in
+    let all =
+    rw c.in-Some.is at (c.in_ok-length.ensures.known open_draft w r.0 r.1 (still-reading _ w _ _ _ _ _ _ _ _ comes r.2))
+    in
     adds-message (record { archive = c.args.archive; offset = c.args.offset; length = ended.length; size = ended.size })
-    d w coming c.finish_message.result
-    text gathered c.finish_message.new.builder c.requires.ready.kept c.requires.ready.phase at all
-    c.finish_message.ensures.ok c.finish_message.ensures.err
+    d w coming c.finish_message.result text gathered c.finish_message.new.builder c.requires.ready.kept
+    c.requires.ready.phase at all c.finish_message.ensures.ok c.finish_message.ensures.err
 
 pub returns-in-Some-clause-own : goal.returns-in-Some-clause-own
 returns-in-Some-clause-own g c =
     let d = draft_in_message c.args.builder.now in
     let gathered = c.lines.invariant.gathers in
     let more = c.in_ok-length.ensures.gathers d gathered.0 gathered.1 in
-    own-fault c.finish_message.result c.next_line.new.text
-    (with_waiting c.next_line.new.room.waiting c.next_line.new.builder) d more.0 more.1 c.finish_message.ensures.err
+    own-fault _ _ _ d _ more.1 c.finish_message.ensures.err
 
 pub lines-preserved : goal.lines-preserved
 lines-preserved g c =
@@ -81,15 +74,13 @@ lines-preserved g c =
     let text = c.next_line.new.text in
     let gathered = with_waiting c.next_line.new.room.waiting c.next_line.new.builder in
     let next = c.next_line.new.cutter in
-    let inside : IsInsideMessage start next.place =
-    subst (λ (o : Option Ended). MatchOption o (IsInsideMessage start next.place) (λ e. HasEnded start e next.place))
-    c.in_default.is e.place in
+    let inside = rw c.in_default.is at e.place in
     record {
       reads = reads-join g.S.Source false c.args.cutter.now.source c.lines.cutter.source next.source i.reads e.reads;
       inside = inside;
       most = e.further.most ∙ i.most;
-      later = omega (arith, e.further.later, i.later);
-      nearer = omega (arith, e.further.nearer, i.nearer);
+      later = omega arith;
+      nearer = omega arith;
       gathers = e.gathers (draft_in_message c.args.builder.now) i.gathers.0 i.gathers.1;
       comes = λ w comes.
           let open_draft = draft_in_message c.args.builder.now in

@@ -1,7 +1,7 @@
 -- `add_messages` adds message by message, and stops at the end of the archive or at the first fault.
-use Rattle.index_job.proofs.Words.{◌∙◌, Err, false, ap, subst, arith, err_from_is_err_and, Heads, IsHeading, Awaited, is_source_failure}
+use Rattle.index_job.proofs.Words.{◌∙◌, Err, false, ap, subst, arith, err_from_is_err_and, Heads, Awaited, is_source_failure}
 use Rattle.index_job.specs.declared.archive_reading.Heading.{Heading}
-use Rattle.index_job.specs.declared.archive_reading.Heading.TheVariants.{Message, End}
+use Rattle.index_job.specs.declared.archive_reading.Heading.TheVariants.{Message}
 use Rattle.index_job.proofs.ArchiveSteps.{done-none, between-fault, inside-fault, done-more, archive-done}
 use Rattle.contract_words.proofs.StillKnown.{still-earlier, still-other}
 use Rattle.index_job.proofs.SourceReads.{reads-none, reads-join, reads-passed}
@@ -47,8 +47,7 @@ messages-preserved g c =
     let start = c.in-Message.offset in
     let old = c.messages.cutter in
     let mid = c.next_heading.new.cutter in
-    let placed : IsHeading (Message start) old.place mid.place =
-    subst (λ (x : Heading). IsHeading x old.place mid.place) c.in-Message.is c.in_ok-offset.ensures.place in
+    let placed = rw c.in-Message.is at c.in_ok-offset.ensures.place in
     record {
       reads = reads-join g.S.Source false c.args.cutter.now.source mid.source c.add_message.new.cutter.source
           (reads-join g.S.Source false c.args.cutter.now.source old.source mid.source i.reads
@@ -56,19 +55,18 @@ messages-preserved g c =
       between = e.between;
       most = e.further.most ∙ c.in_ok-offset.ensures.most ∙ i.most;
       ready = e.ready;
-      few = omega (arith, i.few, placed.1, placed.2, e.further.later);
+      few = omega arith;
       done = λ all ms refusal comes.
           let earlier = still-earlier _ _ _ _ e.reads.stays.known comes in
           let h = i.done all ms refusal (still-earlier _ _ _ _ c.in_ok-offset.ensures.reads.stays.known earlier) in
-          let heads : Heads (Message start) all h.rest refusal mid.coming =
-          subst (λ (x : Heading). Heads x all h.rest refusal mid.coming) c.in-Message.is
-          (c.in_ok-offset.ensures.known all h.rest refusal (still-other _ _ _ _ earlier ∙ h.comes)) in
+          let heads =
+          rw c.in-Message.is at (c.in_ok-offset.ensures.known all h.rest refusal
+          (still-other _ _ _ _ earlier ∙ h.comes)) in
           let w : Awaited = record { all = all; message = heads.0; later = heads.1; refusal = refusal } in
           let adds = rw h.added at (e.known w heads.3 (still-other _ _ _ _ comes ∙ heads.4)) in
           done-more c.args.archive c.args.builder.now all ms refusal c.messages.messages c.messages.builder old.coming h
-          start mid.coming
-          heads.0 heads.1 heads.2
-          c.add_message.new.builder c.add_message.new.cutter.coming adds.0 adds.1;
+          start mid.coming heads.0 heads.1 heads.2 c.add_message.new.builder c.add_message.new.cutter.coming adds.0
+          adds.1;
     }
 
 pub returns-in-End-clause-known : goal.returns-in-End-clause-known
@@ -76,12 +74,10 @@ returns-in-End-clause-known g c = λ all ms refusal comes.
     let bytes = c.in-End.length in
     let h = c.messages.invariant.done all ms refusal
     (still-earlier _ _ _ _ c.in_ok-offset.ensures.reads.stays.known comes) in
-    let heads : Heads (End bytes) all h.rest refusal c.next_heading.new.cutter.coming =
-    subst (λ (x : Heading). Heads x all h.rest refusal c.next_heading.new.cutter.coming) c.in-End.is
-    (c.in_ok-offset.ensures.known all h.rest refusal (still-other _ _ _ _ comes ∙ h.comes)) in
+    let heads =
+    rw c.in-End.is at (c.in_ok-offset.ensures.known all h.rest refusal (still-other _ _ _ _ comes ∙ h.comes)) in
     archive-done c.args.archive c.args.builder.now all ms refusal c.messages.messages c.messages.builder
-    c.messages.cutter.coming h bytes
-    heads
+    c.messages.cutter.coming h bytes heads
 
 pub returns-in_err-offset-clause-reads : goal.returns-in_err-offset-clause-reads
 returns-in_err-offset-clause-reads g c = grind (arith, err_from_is_err_and, reads-passed, reads-join)
@@ -89,8 +85,7 @@ returns-in_err-offset-clause-reads g c = grind (arith, err_from_is_err_and, read
 pub returns-in_err-add_message-in-Message-clause-reads :
     goal.returns-in_err-add_message-in-Message-clause-reads
 returns-in_err-add_message-in-Message-clause-reads g c =
-    let p = err_from_is_err_and c.from_residual-in_err-add_message-in-Message.result
-    c.from_residual-in_err-add_message-in-Message.ensures.1 in
+    let p = err_from_is_err_and _ c.from_residual-in_err-add_message-in-Message.ensures.1 in
     let first = c.args.cutter.now.source in
     let mid = c.next_heading.new.cutter.source in
     let last = c.add_message.new.cutter.source in

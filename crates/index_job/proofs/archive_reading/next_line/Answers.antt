@@ -43,8 +43,6 @@ returns-in_ok-feed_line-in-Line-clause-known g c =
 pub returns-in-End-clause-known : goal.returns-in-End-clause-known
 returns-in-End-clause-known g c =
     let new = c.next_event.new.self in
-    λ d w ls rest r. reads-end d w ls rest c.args.text.now
-    (with_waiting c.args.room.now.waiting c.args.builder.now) _ new.coming
-    (record { length = c.in-End.length; size = c.in-End.size }) r
+    λ d w ls rest r. reads-end d w _ _ _ _ _ _ _ r
     (event-takes g.S.Source c.args.cutter.now new c.next_event.result _ (c.in_ok-next_event.was ∙ ap Ok c.in-End.is)
     c.next_event.ensures.advances _ refl)

@@ -14,25 +14,18 @@ loop-length-preserved c =
     let i = c.loop-length.length-index in
     let rest = c.loop-length.rest.now in
     let n = get_or lengths i 0 in
-    let word : List ℕ = c.split_at.result.0.now in
-    let after : List ℕ = c.split_at.result.1.now in
-    let left : List (List ℕ) = parts_of_lengths (drop (i + 1) lengths) after in
-    let next : parts_of_lengths (drop i lengths) rest ≡ word ∷ left =
-    next-cut lengths i rest c.loop-length-test.true
+    let word = c.split_at.result.0.now in
+    let after = c.split_at.result.1.now in
+    let left = parts_of_lengths (drop (i + 1) lengths) after in
+    let next = next-cut _ i rest c.loop-length-test.true
     ∙ ap₂ (λ (w b : List ℕ). w ∷ parts_of_lengths (drop (i + 1) lengths) b) (sym c.split_at.ensures.front)
     (sym c.split_at.ensures.back) in
     record {
       phase = c.push.ensures.phase;
-      within = omega (
-        arith,
-        c.loop-length.invariant.within,
-        next-sum lengths i c.loop-length-test.true,
-        c.split_at.ensures.back_len,
-      );
+      within = omega (arith, next-sum);
       sizes = (subst (AllByRecursion HasTermLength) next c.loop-length.invariant.sizes).1;
-      whole = c.loop-length.invariant.whole
-          ∙ ap (λ (l : List (List ℕ)).
-          draft_with_terms (word_terms kind c.loop-length.batch ++ word_terms kind l) c.loop-length.builder) next
-          ∙ waits-next kind c.loop-length.batch word c.push.new.self (word_terms kind left) c.loop-length.builder
-          c.push.new.builder c.in_ok-push.ensures.ok;
+      whole = c.loop-length.invariant.whole ∙ ap
+          (λ (l : List (List ℕ)). draft_with_terms (word_terms kind c.loop-length.batch ++ word_terms kind l)
+          c.loop-length.builder) next ∙ waits-next kind c.loop-length.batch word c.push.new.self (word_terms kind left)
+          c.loop-length.builder c.push.new.builder c.in_ok-push.ensures.ok;
     }

@@ -5,7 +5,7 @@ use Rattle.index_job.proofs.Gatherings.{gathers-end, end-fails}
 use Rattle.index_job.proofs.gathering.end_text.Goals as goal
 
 pub returns-clause-err : goal.returns-clause-err
-returns-clause-err c = end-fails c.finish.result c.args.text.now _ c.finish.new.sink c.finish.ensures.stopped
+returns-clause-err c = end-fails _ _ _ _ c.finish.ensures.stopped
 
 pub returns-clause-facts : goal.returns-clause-facts
 returns-clause-facts c = IfOk-weaker c.finish.result _ _ (λ facts are ls d g. are ls g.pairs g.fed)
@@ -13,6 +13,4 @@ returns-clause-facts c = IfOk-weaker c.finish.result _ _ (λ facts are ls d g. a
 
 pub returns-clause-ok : goal.returns-clause-ok
 returns-clause-ok c = on_ok_weaker c.finish.result
-    (λ texts ls d g. gathers-end c.args.text.now _ c.finish.new.sink _ texts
-    (λ same same'. search rules) ls d g)
-    c.finish.ensures.texts
+    (λ texts ls d g. gathers-end _ _ _ _ texts (λ same same'. search rules) _ d g) c.finish.ensures.texts

@@ -5,9 +5,8 @@ use Rattle.index_job.proofs.Gatherings.{gathers-line, line-fails}
 use Rattle.index_job.proofs.gathering.feed_line.Goals as goal
 
 pub returns-clause-err : goal.returns-clause-err
-returns-clause-err c = line-fails c.line.result c.args.text.now _ c.line.new.sink c.args.line.now c.line.ensures.stopped
+returns-clause-err c = line-fails _ _ _ _ _ c.line.ensures.stopped
 
 pub returns-clause-ok : goal.returns-clause-ok
 returns-clause-ok c = on_ok_weaker c.line.result
-    (λ fed ls d g. gathers-line c.args.text.now c.line.new.self _ c.line.new.sink c.args.line.now _ fed
-    (λ same same'. search rules) ls d g) c.line.ensures.fed
+    (λ fed ls d g. gathers-line _ _ _ _ _ _ fed (λ same same'. search rules) _ d g) c.line.ensures.fed

@@ -13,8 +13,7 @@ returns-in_err-facts-clause-err c =
 pub add-requires : goal.add-requires
 add-requires c =
     let o = c.requires.opened in
-    (open-after c.args.span.archive c.args.span.offset o.1 o.0
-    (with_waiting c.end_text.new.room.waiting c.end_text.new.builder) (c.in_ok-facts.ensures.ok o.1 o.0 o.2) o.3).phase
+    (open-after _ _ _ _ _ (c.in_ok-facts.ensures.ok o.1 o.0 o.2) o.3).phase
 
 pub returns-in_err-add-clause-err : goal.returns-in_err-add-clause-err
 returns-in_err-add-clause-err c =
@@ -29,13 +28,10 @@ returns-in_err-add-clause-err c =
 pub end_message-requires-clause-opened : goal.end_message-requires-clause-opened
 end_message-requires-clause-opened c =
     let o = c.requires.opened in
-    open-after c.args.span.archive c.args.span.offset o.1 o.0 c.add.new.builder
-    (c.in_ok-add.ensures.terms ∙ c.in_ok-facts.ensures.ok o.1 o.0 o.2) o.3
+    open-after _ _ _ _ _ (c.in_ok-add.ensures.terms ∙ c.in_ok-facts.ensures.ok o.1 o.0 o.2) o.3
 
 pub returns-clause-err : goal.returns-clause-err
-returns-clause-err c =
-    ids-fail c.end_message.result c.in_ok-facts.facts c.args.text.now
-    (with_waiting c.args.room.now.waiting c.args.builder.now) c.add.new.builder c.in_ok-facts.ensures.facts
+returns-clause-err c = ids-fail _ _ _ _ _ c.in_ok-facts.ensures.facts
     (λ ls d g. c.in_ok-add.ensures.terms ∙ c.in_ok-facts.ensures.ok ls d g) c.end_message.ensures.err
 
 pub returns-clause-ok : goal.returns-clause-ok

@@ -7,8 +7,7 @@ use Rattle.index_job.proofs.Terms.{still-fails}
 use Rattle.index_job.proofs.term_sink.add_words.Goals as goal
 
 pub returns-then-is_blank-clause-terms : goal.returns-then-is_blank-clause-terms
-returns-then-is_blank-clause-terms c = blank-terms c.args.kind c.args.text.now
-    (with_waiting c.args.room.now.waiting c.args.builder.now) (sym c.is_blank.ensures ∙ c.if-is_blank.true)
+returns-then-is_blank-clause-terms c = blank-terms _ _ _ (sym c.is_blank.ensures ∙ c.if-is_blank.true)
 
 pub returns-in_err-add-clause-terms : goal.returns-in_err-add-clause-terms
 returns-in_err-add-clause-terms c =

@@ -1,5 +1,5 @@
 -- `Batch::add_prefetched` adds word by word, so a word that can't be added means that not all can be added.
-use Rattle.index_job.proofs.Words.{◌≡◌, ◌∙◌, [], ◌∷◌, ◌+◌, ℕ, List, Bor, arith, drop, get_or, sym, ap, subst, err_from_is_err_and, Text, Draft, draft_with_terms, IsInMessage, IsFaultOfAdding, word_terms}
+use Rattle.index_job.proofs.Words.{◌≡◌, ◌∙◌, [], ◌∷◌, ◌+◌, ℕ, List, Bor, arith, drop, get_or, sym, ap, subst, err_from_is_err_and, Text, Draft, draft_with_terms, IsFaultOfAdding, word_terms}
 use Rattle.index_job.proofs.Terms.{add-fails, next-waiting, waiting-length}
 use Rattle.index_job.proofs.batch.Batch.add_prefetched.Goals as goal
 
@@ -33,15 +33,13 @@ pub loop-index-preserved : goal.loop-index-preserved
 loop-index-preserved c =
     let kind = c.args.kind in
     let i = c.loop-index.index in
-    let word : List ℕ = (get_or c.self.inside.words i nothing).now in
-    let now : Draft = c.loop-index.builder in
+    let word = (get_or c.self.inside.words i nothing).now in
+    let now = c.loop-index.builder in
     let rest = word_terms kind (drop (i + 1) c.args.self.now) in
     record {
-      phase = subst IsInMessage (sym c.in_ok-add_prefetched.ensures.gives.2) c.loop-index.invariant.phase;
-      whole = c.loop-index.invariant.whole
-          ∙ ap (λ l. draft_with_terms l now)
-          (next-waiting kind c.self.inside.words c.self.inside.count i nothing c.args.self.now c.self.view_is
-          c.loop-index-test.true (omega arith))
+      phase = rw c.in_ok-add_prefetched.ensures.gives.2 c.loop-index.invariant.phase;
+      whole = c.loop-index.invariant.whole ∙ ap (λ l. draft_with_terms l now)
+          (next-waiting _ _ _ i nothing _ c.self.view_is c.loop-index-test.true (omega arith))
           ∙ ap (draft_with_terms rest) (sym c.in_ok-add_prefetched.ensures.gives.2);
     }
 

@@ -7,7 +7,6 @@ pub returns-clause-folded : goal.returns-clause-folded
 returns-clause-folded c = λ ws h.
     let word = folding c.args.word.now in
     let folded = c.in_ok-fold_onto.ensures.exact in
-    holds-push c.args.self.now _ ws word h folded
-    (◌∙◌ {A = List ℕ} c.in_ok-push.ensures.items (ap (λ n. c.args.self.now.lengths.items ++ n ∷ [])
-    (omega (arith, grown c.args.self.now.folded c.fold_onto.new.into word folded))))
-    (sized c.args.self.now.folded c.fold_onto.new.into word folded (c.in_ok-fold_onto.ensures.of_word c.requires))
+    holds-push _ _ _ _ h folded (◌∙◌ {A = List ℕ} c.in_ok-push.ensures.items
+    (ap (λ n. c.args.self.now.lengths.items ++ n ∷ []) (omega (arith, grown))))
+    (sized c.args.self.now.folded c.fold_onto.new.into _ folded (c.in_ok-fold_onto.ensures.of_word c.requires))

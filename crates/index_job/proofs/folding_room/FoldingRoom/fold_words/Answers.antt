@@ -6,7 +6,7 @@ pub loop-word-preserved : goal.loop-word-preserved
 loop-word-preserved c =
     let word = c.in-Some.word.now in
     let rest = c.next.new.self in
-    let steps : c.loop-word.word-iterator ≡ word ∷ rest = c.in-Some.ensures.steps in
+    let steps = c.in-Some.ensures.steps in
     let i = c.loop-word.invariant in
     let held = i.3 in (
       i.0,
@@ -15,8 +15,7 @@ loop-word-preserved c =
       (
         held.0 ++ folding word ∷ [],
         c.in_ok-fold_word.ensures.folded held.0 held.1,
-        append_assoc held.0 (folding word ∷ []) (map folding rest) ∙ sym (ap (λ l. held.0 ++ map folding l) steps)
-            ∙ held.2,
+        append_assoc held.0 (folding word ∷ []) (map _ _) ∙ sym (ap (λ l. held.0 ++ map folding l) steps) ∙ held.2,
       ),
       c.fold_word.ensures.waiting ∙ i.4,
     )

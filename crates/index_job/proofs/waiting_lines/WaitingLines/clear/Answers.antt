@@ -4,4 +4,4 @@ use Rattle.index_job.proofs.BlankTexts.{blank-words}
 use Rattle.index_job.proofs.waiting_lines.WaitingLines.clear.Goals as goal
 
 pub returns : goal.returns
-returns c = ap words c.clear.ensures.bytes ∙ blank-words [] refl
+returns c = ap words c.clear.ensures.bytes ∙ blank-words _ refl

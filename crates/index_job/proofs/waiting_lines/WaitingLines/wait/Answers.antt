@@ -3,5 +3,5 @@ use Rattle.index_job.proofs.JoinedLines.{waits}
 use Rattle.index_job.proofs.waiting_lines.WaitingLines.wait.Goals as goal
 
 pub returns : goal.returns
-returns c = waits c.push_str.result c.self.inside.text c.push.new.self c.push_str.new.self c.args.line.now
-    c.args.self.now c.self.view_is c.utf8.line c.in_ok-push.ensures.bytes c.push_str.ensures.bytes
+returns c = waits _ c.self.inside.text c.push.new.self c.push_str.new.self _ _ c.self.view_is c.utf8.line
+    c.in_ok-push.ensures.bytes c.push_str.ensures.bytes
