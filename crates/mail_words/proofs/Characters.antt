@@ -1,5 +1,5 @@
 -- The word characters of ASCII; joiners aren't word characters; joiners can be found among bytes.
-use Rattle.mail_words.proofs.Imports.{◌≡◌, ℕ, zero, suc, ◌-◌, ◌<◌, ◌≤◌, Bool, true, false, not, ◌&&◌, nat_lt, List, [], ◌∷◌, get_or, encode_utf8, encode_utf8_all, IsUtf8, inl, inr, refl, sym, ap, ◌∙◌, arith, and-true, cases_lt, nat_tests, list_all-append, list_all_at, encode_ascii, encodes-chars, char_from_byte, length-encode, len_utf8_bounds, beq, is_ascii_alphanumeric, list_all, ucd_category, ucd_derived, same_from_beq, all_below, all_below-at, is_word_character, is_joiner, is_piece, begins, length, length-append, get_or_append_left}
+use Rattle.mail_words.proofs.Imports.{◌≡◌, ℕ, suc, ◌-◌, ◌<◌, ◌≤◌, Bool, true, false, not, ◌&&◌, nat_lt, List, [], ◌∷◌, get_or, encode_utf8, encode_utf8_all, IsUtf8, inl, inr, refl, sym, ap, ◌∙◌, arith, and-true, cases_lt, nat_tests, list_all-append, list_all_at, encode_ascii, encodes-chars, char_from_byte, length-encode, len_utf8_bounds, beq, is_ascii_alphanumeric, list_all, ucd_category, ucd_derived, same_from_beq, all_below, all_below-at, is_word_character, is_joiner, is_piece, begins, length, length-append, get_or_append_left}
 use Rattle.std.proofs.Common.{chars, append-nil}
 use Rattle.std.specs.Prelude.{◌==◌}
 
@@ -27,7 +27,7 @@ word_character_is_no_joiner c of_word = grind (arith, joiner_is_no_word_characte
 
 -- for a byte that isn't a word character by itself, the tests of a joiner and of a part of a run agree
 pub piece_byte : (b : ℕ) → (nat_lt b 128 && is_word_character b) ≡ false → is_joiner b ≡ (nat_lt b 128 && is_piece b)
-piece_byte b other = grind (arith, nat_lt, joiner_below, nat_tests)
+piece_byte b other = grind (arith, joiner_below)
 
 -- ---- the joiners among the bytes of a text
 
@@ -67,7 +67,7 @@ joiners-encodes (c ∷ cs) = grind (
 
 -- the bytes are joiners alone if the characters are
 pub joiners-bytes : (text : List ℕ) → IsUtf8 text → list_all is_joiner text ≡ list_all is_joiner (chars text)
-joiners-bytes text utf8 = ap (list_all is_joiner) (sym (encodes-chars text utf8)) ∙ joiners-encodes (chars text)
+joiners-bytes text utf8 = cc (encodes-chars text utf8, joiners-encodes (chars text))
 
 -- the bytes are joiners alone if nothing is before the joiners at the end
 joiners-from : (bytes : List ℕ) → ((k : ℕ) → k < length bytes → is_joiner (get_or bytes k 0) ≡ true)
@@ -79,28 +79,17 @@ pub none-before : (bytes : List ℕ) (n : ℕ) → n ≤ length bytes
     → ((k : ℕ) → n ≤ k → k < length bytes → is_joiner (get_or bytes k 0) ≡ true)
     → (0 < n → is_joiner (get_or bytes (n - 1) 0) ≡ false)
     → (n == 0) ≡ list_all is_joiner bytes
-none-before bytes zero within joiners last = grind (arith, joiners-from)
-none-before bytes (suc n) within joiners last =
-    grind (arith, list_all_at)
+none-before bytes n h h2 h3 = grind (arith, joiners-from, list_all_at)
 
 -- the first character is a joiner if the first byte is
 pub joiner-first : (text : List ℕ) → IsUtf8 text → (nat_lt 0 (length text) && is_joiner (get_or text 0 0))
     ≡ begins is_joiner (chars text)
-joiner-first text utf8 = ap (λ bytes. nat_lt 0 (length bytes) && is_joiner (get_or bytes 0 0))
-    (sym (encodes-chars text utf8)) ∙ go (chars text)
+joiner-first text utf8 = cc (encodes-chars text utf8, go (chars text))
   where
     byte : (c : ℕ) → is_joiner (get_or (encode_utf8 c) 0 0) ≡ is_joiner c
-    byte c = grind (arith, cases_lt, encode_ascii, no_joiner_first, no_joiner_from)
+    byte c = grind (arith, encode_ascii, no_joiner_first, no_joiner_from)
 
     go : (cs : List ℕ) → (nat_lt 0 (length (encode_utf8_all cs)) && is_joiner (get_or (encode_utf8_all cs) 0 0))
         ≡ begins is_joiner cs
     go [] = refl
-    go (c ∷ cs) = grind (
-      arith,
-      byte c,
-      encode_utf8_all,
-      length-append,
-      get_or_append_left,
-      length-encode c,
-      len_utf8_bounds c,
-    )
+    go (c ∷ cs) = grind (arith, byte c, length-append, get_or_append_left, length-encode c)

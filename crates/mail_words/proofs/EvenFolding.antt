@@ -1,10 +1,10 @@
 -- If each character of a text folds evenly, the words of its folding are the foldings of its words.
 use lib.Utf8.{scalar}
-use Rattle.mail_words.proofs.Imports.{◌≡◌, ◌<◌, ℕ, Bool, true, false, cond, ◌&&◌, ◌||◌, nat_le, List, [], ◌∷◌, ◌++◌, reverse, length, encode_utf8, encode_utf8_all, IsUtf8, refl, sym, ap, ap₂, ◌∙◌, arith, and_parts, nat_tests, length-append, length-encode, len_utf8, list_all-append, map-append, reverse-append, chars-encodes, scalars-chars, list_all, list_any, same_from_beq, is_piece, folding, is_word_character, is_joiner, begins, after_joiners, is_word, words}
-use Rattle.std.proofs.Common.{map, chars, eqb-true}
+use Rattle.mail_words.proofs.Imports.{◌≡◌, ◌<◌, ℕ, Bool, true, cond, ◌&&◌, ◌||◌, List, [], ◌∷◌, ◌++◌, reverse, length, encode_utf8, encode_utf8_all, IsUtf8, refl, sym, ap₂, ◌∙◌, arith, and_parts, length-append, length-encode, len_utf8, list_all-append, map-append, reverse-append, chars-encodes, scalars-chars, list_all, list_any, is_piece, folding, is_word_character, is_joiner, begins, after_joiners, is_word, words}
+use Rattle.std.proofs.Common.{map, chars}
 use Rattle.std.proofs.Math.Utf8.{scalars}
 use Rattle.caseless.specs.Caseless.{default_case_fold}
-use Rattle.caseless.proofs.CaselessLemmas.{default_case_fold-nil, default_case_fold-cons, full_fold-none}
+use Rattle.caseless.proofs.CaselessLemmas.{default_case_fold-nil, default_case_fold-cons}
 use Rattle.ucd_case.specs.CaseFolding.{full_folding, full_fold, or_itself}
 use Rattle.ucd_case.proofs.CaseFoldingLemmas.{full_folding_stepped}
 use Rattle.unicode.proofs.RangedFacts.{values_ok, Stepped-at_values}
@@ -12,7 +12,6 @@ use Rattle.unicode.proofs.TableComputing.{tables}
 use Rattle.mail_words.specs.Folding.{are_alike, is_one_like, folds_evenly}
 use Rattle.mail_words.specs.Inside.Folds.{keeps_itself}
 use Rattle.mail_words.proofs.Places.{if_word, words_on, words_from, words_after-places}
-use Rattle.mail_words.proofs.RunLemmas.{after_joiners-joiner, after_joiners-other}
 
 -- ---- characters
 
@@ -36,22 +35,16 @@ record Alike (c d : ℕ) : Type 0 where
 
 alike : (c d : ℕ) → are_alike c d ≡ true → Alike c d
 alike c d e =
-    grind (arith, and_parts, eqb-true, same_from_beq)
+    grind (arith, and_parts)
 
 alike-self : (c : ℕ) → Alike c c
 alike-self c = grind arith
 
 alike-first : (c : ℕ) (ds : List ℕ) → is_one_like c ds ≡ true → Alike c (first_or c ds)
-alike-first c [] e = cc
-alike-first c (d ∷ []) e = alike c d e
-alike-first c (d ∷ f ∷ ds) e = cc
+alike-first c ds h = grind (arith, alike)
 
 alike-low : (c : ℕ) → Alike c (low_one c)
-alike-low c = go (folds_evenly c) refl
-  where
-    go : (t : Bool) → folds_evenly c ≡ t → Alike c (cond t (first_or c (full_fold c)) c)
-    go true e = alike-first c (full_fold c) e
-    go false e = alike-self c
+alike-low c = grind (arith, alike-first, alike-self)
 
 word-low : (c : ℕ) → is_word_character (low_one c) ≡ is_word_character c
 word-low c = sym (alike-low c).word
@@ -62,23 +55,10 @@ joiner-low c = sym (alike-low c).joiner
 piece-low : (c : ℕ) → is_piece (low_one c) ≡ is_piece c
 piece-low c = ap₂ ◌||◌ (word-low c) (joiner-low c)
 
--- a character that folding leaves as it is folds evenly
-alike-true : (c : ℕ) → are_alike c c ≡ true
-alike-true c = grind (arith, nat_tests)
-
 pub even-kept : (c : ℕ) → keeps_itself c ≡ true → folds_evenly c ≡ true
 even-kept c h =
     let few : length (full_folding c) < 1 = grind arith in
-    grind (arith, full_fold-none, alike-true)
-
--- a character that folds evenly folds to one character
-first-even : (c : ℕ) (ds : List ℕ) → is_one_like c ds ≡ true → ds ≡ first_or c ds ∷ []
-first-even c [] e = cc
-first-even c (d ∷ []) e = refl
-first-even c (d ∷ f ∷ ds) e = cc
-
-pub fold-low : (c : ℕ) → folds_evenly c ≡ true → full_fold c ≡ low_one c ∷ []
-fold-low c e = grind (arith, first-even)
+    grind arith
 
 -- all that characters fold to are characters
 all_scalar : (c : ℕ) → scalars (full_folding c) ≡ true
@@ -86,8 +66,7 @@ unfolding tables values_ok full_folding_stepped
 all_scalar c = Stepped-at_values full_folding full_folding_stepped scalars refl c
 
 scalar-first : (c : ℕ) (ds : List ℕ) → scalars ds ≡ true → scalar c ≡ true → scalar (first_or c (or_itself c ds)) ≡ true
-scalar-first c [] h own = own
-scalar-first c (d ∷ ds) h own = (and_parts (scalar d) (scalars ds) h).0
+scalar-first c ds h h2 = grind arith
 
 scalar-low : (c : ℕ) → scalar c ≡ true → scalar (low_one c) ≡ true
 scalar-low c own = grind (arith, scalar-first, all_scalar)
@@ -95,13 +74,9 @@ scalar-low c own = grind (arith, scalar-first, all_scalar)
 scalars-low : (cs : List ℕ) → scalars cs ≡ true → scalars (low cs) ≡ true
 scalars-low [] h = refl
 scalars-low (c ∷ cs) h =
-    grind (arith, and_parts, scalars, scalar-low, scalars-low cs)
+    grind (arith, and_parts, scalar-low, scalars-low cs)
 
 -- ---- what the tests of a word need of its characters and of those around it
-
-begins-low : (cs : List ℕ) → begins is_word_character (low cs) ≡ begins is_word_character cs
-begins-low [] = refl
-begins-low (c ∷ cs) = word-low c
 
 all-low : (p : ℕ → Bool) → ((c : ℕ) → p (low_one c) ≡ p c) → (cs : List ℕ) → list_all p (low cs) ≡ list_all p cs
 all-low p same [] = refl
@@ -114,19 +89,23 @@ joins-low (c ∷ cs) = ap₂ ◌||◌ (joiner-low c) (joins-low cs)
 reverse-low : (cs : List ℕ) → reverse (low cs) ≡ low (reverse cs)
 reverse-low [] = refl
 reverse-low (c ∷ cs) =
-    reverse-append (low_one c ∷ []) (low cs) ∙ ap (λ ds. ds ++ low_one c ∷ []) (reverse-low cs)
-    ∙ sym (ap low (reverse-append (c ∷ []) cs) ∙ map-append low_one (reverse cs) (c ∷ []))
+    cc (
+      reverse-append (low_one c ∷ []) (low cs),
+      reverse-low cs,
+      reverse-append (c ∷ []) cs,
+      map-append low_one (reverse cs) (c ∷ []),
+    )
 
 ends-low : (cs : List ℕ) → begins is_word_character (reverse (low cs)) ≡ begins is_word_character (reverse cs)
-ends-low cs = grind (arith, begins, reverse-low, begins-low)
+ends-low cs = grind (arith, reverse-low)
 
 after_joiners-low : (cs : List ℕ) → after_joiners (low cs) ≡ low (after_joiners cs)
 after_joiners-low [] = refl
-after_joiners-low (c ∷ cs) = grind (arith, after_joiners-joiner, joiner-low, after_joiners-other, after_joiners-low cs)
+after_joiners-low (c ∷ cs) = grind (arith, joiner-low, after_joiners-low cs)
 
 run-low : (cs : List ℕ) → begins is_word_character (after_joiners (low cs))
     ≡ begins is_word_character (after_joiners cs)
-run-low cs = grind (arith, begins, after_joiners-low, begins-low)
+run-low cs = grind (arith, after_joiners-low)
 
 bytes-low : (cs : List ℕ) → length (encode_utf8_all (low cs)) ≡ length (encode_utf8_all cs)
 bytes-low [] = refl
@@ -144,18 +123,7 @@ bytes-low (c ∷ cs) =
 is_word-low : (before inside after : List ℕ) → is_word is_word_character (low before) (low inside) (low after)
     ≡ is_word is_word_character before inside after
 unfolding is_word
-is_word-low before inside after = grind (
-  arith,
-  begins-low,
-  all-low,
-  word-low,
-  ends-low,
-  piece-low,
-  joins-low,
-  run-low,
-  nat_le,
-  bytes-low,
-)
+is_word-low before inside after = grind (arith, all-low, word-low, ends-low, piece-low, joins-low, run-low, bytes-low)
 
 -- ---- words, place by place
 
@@ -167,34 +135,31 @@ record AreEven (cs : List ℕ) : Type 0 where
 fold-all : (cs : List ℕ) → list_all folds_evenly cs ≡ true → default_case_fold cs ≡ low cs
 fold-all [] h = default_case_fold-nil
 fold-all (c ∷ cs) h =
-    grind (arith, and_parts, default_case_fold-cons, fold-low, fold-all cs)
+    grind (arith, default_case_fold-cons, fold-all cs)
 
 folding-low : (cs : List ℕ) → AreEven cs → encode_utf8_all (low cs) ≡ folding (encode_utf8_all cs)
-folding-low cs h = grind (arith, encode_utf8_all, fold-all, chars-encodes)
-
-folded_one : (word : List ℕ) (b : Bool) → map folding (cond b (word ∷ []) []) ≡ cond b (folding word ∷ []) []
-folded_one word b = grind arith
+folding-low cs h = grind (arith, fold-all, chars-encodes)
 
 if_word-low : (before inside after : List ℕ) → AreEven inside → if_word (low before) (low inside) (low after)
     ≡ map folding (if_word before inside after)
 if_word-low before inside after h =
-    grind (arith, is_word-low, folding-low, folded_one, encode_utf8_all)
+    grind (arith, is_word-low, folding-low)
 
 even-nil : AreEven []
 even-nil = record { scalars = refl; even = refl }
 
 even-parts : (c : ℕ) (cs : List ℕ) → AreEven (c ∷ cs) → AreEven (c ∷ []) × AreEven cs
 even-parts c cs h =
-    grind (arith, and_parts, scalars)
+    grind arith
 
 scalars-append : (xs ys : List ℕ) → scalars xs ≡ true → scalars ys ≡ true → scalars (xs ++ ys) ≡ true
 scalars-append [] ys h h2 = h2
 scalars-append (x ∷ xs) ys h h2 =
-    grind (arith, and_parts, scalars, scalars-append xs ys)
+    grind (arith, scalars-append xs ys)
 
 even-push : (xs ys : List ℕ) → AreEven xs → AreEven ys → AreEven (xs ++ ys)
 even-push xs ys h h2 =
-    grind (arith, scalars, scalars-append, list_all-append)
+    grind (arith, scalars-append, list_all-append)
 
 words_on-low : (before inside rest : List ℕ) → AreEven inside → AreEven rest
     → words_on (low before) (low inside) (low rest) ≡ map folding (words_on before inside rest)
@@ -203,17 +168,22 @@ words_on-low before inside (c ∷ cs) h rest_h =
     let longer : List ℕ = inside ++ c ∷ [] in
     let parts = even-parts c cs rest_h in
     let longer_h : AreEven longer = even-push inside (c ∷ []) h parts.0 in
-    ap (λ i. if_word (low before) i (low cs) ++ words_on (low before) i (low cs))
-    (sym (map-append low_one inside (c ∷ [])))
-    ∙ ap₂ ◌++◌ (if_word-low before longer cs longer_h) (words_on-low before longer cs longer_h parts.1)
-    ∙ sym (map-append folding (if_word before longer cs) (words_on before longer cs))
+    cc (
+      map-append low_one inside (c ∷ []),
+      if_word-low before longer cs longer_h,
+      words_on-low before longer cs longer_h parts.1,
+      map-append folding (if_word before longer cs) (words_on before longer cs),
+    )
 
 words_from-low : (before cs : List ℕ) → AreEven cs → words_from (low before) (low cs)
     ≡ map folding (words_from before cs)
 words_from-low before [] h = refl
 words_from-low before (c ∷ cs) h =
-    ap₂ ◌++◌ (words_on-low before [] (c ∷ cs) even-nil h) (words_from-low (c ∷ before) cs (even-parts c cs h).1)
-    ∙ sym (map-append folding (words_on before [] (c ∷ cs)) (words_from (c ∷ before) cs))
+    cc (
+      words_on-low before [] (c ∷ cs) even-nil h,
+      words_from-low (c ∷ before) cs (even-parts c cs h).1,
+      map-append folding (words_on before [] (c ∷ cs)) (words_from (c ∷ before) cs),
+    )
 
 pub words-folding-even : (text : List ℕ) → IsUtf8 text → list_all folds_evenly (chars text) ≡ true
     → words (folding text) ≡ map folding (words text)
@@ -221,8 +191,10 @@ unfolding words
 words-folding-even text utf8 even =
     let cs : List ℕ = chars text in
     let own : scalars cs ≡ true = scalars-chars text utf8 in
-    words_after-places [] (chars (folding text))
-    ∙ ap (words_from []) (ap (λ ds. chars (encode_utf8_all ds)) (fold-all cs even)
-    ∙ chars-encodes (low cs) (scalars-low cs own))
-    ∙ words_from-low [] cs (record { scalars = own; even = even })
-    ∙ sym (ap (map folding) (words_after-places [] cs))
+    cc (
+      words_after-places [] (chars (folding text)),
+      fold-all cs even,
+      chars-encodes (low cs) (scalars-low cs own),
+      words_from-low [] cs (record { scalars = own; even = even }),
+      words_after-places [] cs,
+    )

@@ -1,6 +1,6 @@
 -- Texts that are folded as a whole, piece by piece.
-use Rattle.mail_words.proofs.Imports.{◌≡◌, ℕ, ◌+◌, Bool, true, false, ◌&&◌, List, [], ◌∷◌, ◌++◌, length, take, drop, encode_utf8, encode_utf8_all, IsUtf8, refl, sym, ap, ◌∙◌, arith, append_assoc, length-append, list_all-append, encodes-append, chars_past_char, IsUtf8-past_char, IsCharBoundary, nil_from_length, chars-nil, and_parts, length-encode, len_utf8, list_all, front, after_front, folding}
-use Rattle.std.proofs.Common.{chars, append-nil, eqb-true}
+use Rattle.mail_words.proofs.Imports.{◌≡◌, ℕ, ◌+◌, Bool, true, false, ◌&&◌, List, [], ◌∷◌, ◌++◌, length, take, drop, encode_utf8, encode_utf8_all, IsUtf8, refl, ap, ◌∙◌, arith, append_assoc, length-append, list_all-append, encodes-append, chars_past_char, IsUtf8-past_char, IsCharBoundary, nil_from_length, chars-nil, and_parts, length-encode, len_utf8, list_all, front, after_front, folding}
+use Rattle.std.proofs.Common.{chars, append-nil}
 use Rattle.std.proofs.lemmas.Str.{IsUtf8-drop}
 use Rattle.caseless.proofs.CaselessLemmas.{default_case_fold-nil, default_case_fold-cons, default_case_fold-append}
 use Rattle.ucd_case.specs.CaseFolding.{full_fold}
@@ -9,7 +9,7 @@ use Rattle.mail_words.specs.Inside.Folds.{keeps_itself}
 use Rattle.mail_words.proofs.FoldingLemmas.{keeps_characters}
 use Rattle.mail_words.proofs.EvenFolding.{even-kept}
 use Rattle.mail_words.proofs.RunLemmas.{front-pass, front-fail, front-after}
-use Rattle.mail_words.proofs.Seams.{front_seam, seam_boundary, seam_front, chars_back, seam_back}
+use Rattle.mail_words.proofs.Seams.{front_seam, seam_boundary, seam_front, chars_back}
 
 -- these bytes are the folding of the text up to this rest
 pub record FoldsSoFar (text into rest : List ℕ) : Type 0 where
@@ -36,7 +36,7 @@ all-front p (c ∷ cs) = grind (arith, front-pass, front-fail, all-front p cs)
 even-all : (cs : List ℕ) → list_all keeps_itself cs ≡ true → list_all folds_evenly cs ≡ true
 even-all [] h = refl
 even-all (c ∷ cs) h =
-    grind (arith, and_parts, even-kept, even-all cs)
+    grind (arith, even-kept, even-all cs)
 
 pub folds-piece : (text into rest kept after : List ℕ) (n : ℕ) → FoldsSoFar text into rest → n
     ≡ length (encode_utf8_all (front keeps_itself (chars rest)))
@@ -50,7 +50,6 @@ folds-piece text into rest kept after n h place is is_after =
     grind (
       arith,
       all-front,
-      encode_utf8_all,
       default_case_fold-append,
       keeps_characters,
       encodes-append,
@@ -58,16 +57,14 @@ folds-piece text into rest kept after n h place is is_after =
       even-all,
       append_assoc,
       length-append,
-      seam_back,
       IsUtf8-drop,
-      piece_boundary,
     )
 
 -- ---- a character that folds evenly
 
 same-length : (c d : ℕ) → folds_evenly c ≡ true → full_fold c ≡ d ∷ [] → len_utf8 c ≡ len_utf8 d
 same-length c d e is =
-    grind (arith, eqb-true, and_parts)
+    grind (arith, and_parts)
 
 pub folds-character : (text into after rest : List ℕ) (c d : ℕ) → FoldsSoFar text into after → after
     ≡ encode_utf8 c ++ rest → folds_evenly c ≡ true → full_fold c ≡ d ∷ []
@@ -75,13 +72,12 @@ pub folds-character : (text into after rest : List ℕ) (c d : ℕ) → FoldsSoF
 folds-character text into after rest c d h parts e is =
     let next = chars_past_char after rest c h.utf8 parts in
     let folded : folding after ≡ encode_utf8 d ++ folding rest =
-    grind (arith, encode_utf8_all, default_case_fold-cons) in
+    grind (arith, default_case_fold-cons) in
     record {
       even = grind arith;
-      folds = grind (arith, append_assoc, encode_utf8);
+      folds = grind (arith, append_assoc);
       lengths = omega (
         arith,
-        h.lengths,
         length-append into (encode_utf8 d),
         ap length parts,
         length-append (encode_utf8 c) rest,
@@ -97,13 +93,12 @@ pub folds-uneven : (text into after rest : List ℕ) (c : ℕ) → FoldsSoFar te
     ≡ encode_utf8 c ++ rest → folds_evenly c ≡ false
     → false ≡ list_all folds_evenly (chars text)
 folds-uneven text into after rest c h parts e =
-    sym (h.even ∙ ap (list_all folds_evenly) (chars_past_char after rest c h.utf8 parts)
-    ∙ ap (λ t. t && list_all folds_evenly (chars rest)) e)
+    cc (h.even, chars_past_char after rest c h.utf8 parts)
 
 -- ---- the end
 
 folding-nil : folding [] ≡ []
-folding-nil = grind (arith, encode_utf8_all, chars-nil, default_case_fold-nil)
+folding-nil = grind (arith, chars-nil, default_case_fold-nil)
 
 pub folds-even : (text into rest : List ℕ) → FoldsSoFar text into rest → length rest ≡ 0 → true
     ≡ list_all folds_evenly (chars text)

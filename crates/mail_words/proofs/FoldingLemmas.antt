@@ -1,5 +1,5 @@
 -- Laws of foldings, and of a folding that isn't written to its end yet.
-use Rattle.mail_words.proofs.Imports.{◌≡◌, ℕ, true, not, beq, same_from_beq, list_all, ◌*◌, ◌≤◌, List, [], ◌∷◌, ◌++◌, length, None, Some, encode_utf8, encode_utf8_all, IsAscii, IsUtf8, refl, sym, ap, ◌∙◌, ◌<◌, arith, append_assoc, length-append, cases_lt, chars-IsAscii, encodes-IsAscii, encodes-chars, length-le-encodes, Chars-gives, len_utf8_bounds, length-encode, IsAscii-map, lowercase_ascii, to_ascii_lowercase, chars_rest, chars_steps, folding}
+use Rattle.mail_words.proofs.Imports.{◌≡◌, ℕ, true, not, beq, same_from_beq, list_all, ◌*◌, ◌≤◌, List, [], ◌∷◌, ◌++◌, length, None, Some, encode_utf8, encode_utf8_all, IsAscii, IsUtf8, refl, ap, ◌∙◌, ◌<◌, arith, append_assoc, length-append, cases_lt, chars-IsAscii, encodes-IsAscii, encodes-chars, length-le-encodes, Chars-gives, len_utf8_bounds, length-encode, IsAscii-map, lowercase_ascii, to_ascii_lowercase, chars_rest, chars_steps, folding}
 use Rattle.std.proofs.Common.{map, chars, append-nil}
 use Rattle.std.specs.declared.str.Chars.{Chars}
 use Rattle.std.specs.Iterator.{AlwaysYields}
@@ -77,10 +77,10 @@ kept_byte b below =
 pub keeps_characters : (cs : List ℕ) → list_all keeps_itself cs ≡ true → default_case_fold cs ≡ cs
 keeps_characters [] all = default_case_fold-nil
 keeps_characters (c ∷ cs) all =
-    grind (arith, default_case_fold-cons, full_fold-none, keeps_characters cs)
+    grind (arith, default_case_fold-cons, keeps_characters cs)
 
 pub folding-same : (text : List ℕ) → IsUtf8 text → list_all keeps_itself (chars text) ≡ true → folding text ≡ text
-folding-same text utf8 all = grind (arith, encode_utf8_all, keeps_characters, encodes-chars)
+folding-same text utf8 all = grind (arith, keeps_characters, encodes-chars)
 
 -- ---- a folding while it is written
 
@@ -102,12 +102,12 @@ pub folds_further : (all written : List ℕ) (old new : CaseFold Chars) (c : ℕ
     → StillFolds all (written ++ encode_utf8 c) new
 folds_further all written old new c h step =
     let next = step.first.at h.left h.source in
-    grind (arith, encode_utf8_all, append_assoc, encode_utf8)
+    grind (arith, append_assoc)
 
 pub folds_to_end : (all written : List ℕ) (old new : CaseFold Chars) → StillFolds all written old
     → CaseFoldSteps chars_steps old None new → written ≡ all
 folds_to_end all written old new h step =
-    sym (h.whole ∙ ap (λ cs. written ++ encode_utf8_all cs) (step.first.at h.left h.source) ∙ append-nil written)
+    cc (h.whole, step.first.at h.left h.source, append-nil written)
 
 -- the bytes written so far are no more than all
 pub folds_within : (all written : List ℕ) (iterator : CaseFold Chars) → StillFolds all written iterator

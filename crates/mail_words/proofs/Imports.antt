@@ -12,9 +12,9 @@ unfoldable pub use Rattle.mail_words.specs.Words.{
   words,
 }
 pub use Rattle.mail_words.specs.declared.ascii.TheConstants.{CLASSES}
-pub use Rattle.std.proofs.Common.{All, Bool, Fits, IsAscii, IsUtf8, List, None, Some, [], add-one, ap, append_assoc, ap₂, arith, bit_and, bit_or, cond, drop, drop-cons, encode_utf8, encode_utf8_all, eqb, false, get_or, inl, inr, leb, ltb, length, length-append, lit<, nat_le, nat_lt, not, refl, reverse, slice_index, string_bytes, subst, suc, sym, take, true, w8, zero, ℕ, ◌%◌, ◌&&◌, ◌*◌, ◌++◌, ◌+◌, ◌-◌, ◌<◌, ◌^◌, ◌||◌, ◌∙◌, ◌∷◌, ◌≡◌, ◌≤◌}
+pub use Rattle.std.proofs.Common.{All, Bool, Fits, IsAscii, IsUtf8, List, None, Some, [], ap, append_assoc, ap₂, arith, bit_and, bit_or, cond, drop, drop-cons, encode_utf8, encode_utf8_all, eqb, false, get_or, inl, inr, leb, ltb, length, length-append, lit<, nat_le, nat_lt, not, refl, reverse, slice_index, string_bytes, subst, suc, sym, take, true, w8, zero, ℕ, ◌%◌, ◌&&◌, ◌*◌, ◌++◌, ◌+◌, ◌-◌, ◌<◌, ◌^◌, ◌||◌, ◌∙◌, ◌∷◌, ◌≡◌, ◌≤◌}
 pub use Rattle.std.proofs.Math.Bool.{and-false, and-true, or-true}
-pub use Rattle.std.proofs.lemmas.Bool.{agree_below, agree_below_at, and_parts, cases_lt, eq-eqb, eqb-false, eqb-true, le-leb, leb-true, ltb-true}
+pub use Rattle.std.proofs.lemmas.Bool.{agree_below, agree_below_at, and_parts, cases_lt, eq-eqb, eqb-false, eqb-true, le-leb, ltb-true}
 pub use Rattle.std.proofs.lemmas.Bool.Decides.{nat_tests}
 pub use Rattle.std.proofs.lemmas.List.{get_or-append-add, get_or-append_right, get_or_append_left, length-map, map-append, nil_from_length, reverse-append}
 pub use Rattle.std.proofs.lemmas.List.Folds.{list_all-append, list_all_at, list_any-append}

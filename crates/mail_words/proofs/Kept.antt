@@ -1,20 +1,16 @@
 -- Words that are short enough to be kept, and words that are too long.
-use Rattle.mail_words.proofs.Imports.{◌≡◌, ℕ, ◌+◌, ◌≤◌, ◌<◌, Bool, true, false, List, [], ◌∷◌, ◌++◌, length, take, drop, encode_utf8_all, IsUtf8, sym, ap, ◌∙◌, arith, append_assoc, length-append, le-leb, nat_tests, encodes-append, is_word_character, begins, word_limit, front, after_front, joined_front, within, joined_on, long_at, words_left}
+use Rattle.mail_words.proofs.Imports.{◌≡◌, ℕ, ◌+◌, ◌≤◌, ◌<◌, Bool, true, false, List, [], ◌∷◌, ◌++◌, length, take, drop, encode_utf8_all, IsUtf8, ◌∙◌, arith, append_assoc, length-append, le-leb, nat_tests, encodes-append, is_word_character, begins, word_limit, front, after_front, joined_front, within, joined_on, long_at, words_left}
 use Rattle.std.proofs.Common.{chars}
-use Rattle.mail_words.proofs.RunLemmas.{front-after, is_some}
+use Rattle.mail_words.proofs.RunLemmas.{front-after}
 use Rattle.mail_words.proofs.OneWord.{joined_front-prefix}
 use Rattle.mail_words.proofs.Reading.{words_left-word}
-use Rattle.mail_words.proofs.Seams.{IsSeam, seam, front_seam, seam_front, chars_back, some_from_bytes}
+use Rattle.mail_words.proofs.Seams.{IsSeam, seam, front_seam, chars_back}
 
 pub within-short : (cs word : List ℕ) → word ≡ encode_utf8_all cs → length word ≤ word_limit → within cs ≡ word ∷ []
 within-short cs word is short = grind (arith, encode_utf8_all, le-leb)
 
 pub within-long : (cs : List ℕ) → word_limit < length (encode_utf8_all cs) → within cs ≡ []
 within-long cs long = grind (arith, nat_tests)
-
-pub joined_on-short : (plain more word : List ℕ) → is_some more ≡ true → word ≡ encode_utf8_all (plain ++ more)
-    → length word ≤ word_limit → joined_on plain more ≡ word ∷ []
-joined_on-short plain more word h h2 h3 = grind (arith, within-short)
 
 pub joined_on-long : (plain more : List ℕ) → word_limit < length (encode_utf8_all (plain ++ more))
     → joined_on plain more ≡ []
@@ -40,8 +36,11 @@ long_seam text utf8 =
     let parts = joined_front-prefix (after_front is_word_character cs) in (
       parts.0,
       seam text (long_front cs) parts.0 utf8
-          (sym (front-after is_word_character cs) ∙ ap (λ rest. front is_word_character cs ++ rest) parts.1
-          ∙ sym (append_assoc (front is_word_character cs) (joined_front (after_front is_word_character cs)) parts.0)),
+          (cc (
+            front-after is_word_character cs,
+            parts.1,
+            append_assoc (front is_word_character cs) (joined_front (after_front is_word_character cs)) parts.0,
+          )),
     )
 
 -- the number of bytes that continue the plain word's run, counted in the text after it
@@ -50,8 +49,7 @@ pub joined_is : (text part : List ℕ) (plain joined : ℕ) → IsUtf8 text → 
     → joined ≡ length (encode_utf8_all (joined_front (chars part))) → joined
     ≡ length (encode_utf8_all (joined_front (after_front is_word_character (chars text))))
 joined_is text part plain joined utf8 place is run =
-    run ∙ ap (λ cs. length (encode_utf8_all (joined_front cs)))
-    (chars_back text _ _ plain part (front_seam is_word_character text utf8) place is)
+    cc (run, chars_back text _ _ plain part (front_seam is_word_character text utf8) place is)
 
 -- a long word that is short enough is a front of the text
 pub long_at-short : (text word : List ℕ) (len : ℕ) → IsUtf8 text → len
@@ -61,7 +59,7 @@ pub long_at-short : (text word : List ℕ) (len : ℕ) → IsUtf8 text → len
 long_at-short text word len utf8 place short some is =
     let cs : List ℕ = chars text in
     let cut = long_seam text utf8 in
-    grind (arith, seam_front, joined_on-short, some_from_bytes)
+    grind arith
 
 -- ---- the words left at a word character
 

@@ -1,6 +1,6 @@
 -- If no byte at the front of a text is a stop, folding keeps its characters: their first two bytes show it.
 use lib.Seq.{drop-append-add}
-use Rattle.mail_words.proofs.Imports.{◌≡◌, ℕ, zero, suc, ◌+◌, ◌-◌, ◌%◌, ◌<◌, ◌≤◌, Bool, true, false, ◌&&◌, ◌||◌, nat_le, nat_lt, List, [], ◌∷◌, ◌++◌, length, drop, get_or, encode_utf8, encode_utf8_all, len_utf8, IsUtf8, and_parts, leb-true, inl, inr, refl, sym, ap, ◌∙◌, subst, arith, cases_lt, nat_tests, length-append, length-encode, encode_ascii, encodes-chars, IsUtf8-past_char, get_or-append-add}
+use Rattle.mail_words.proofs.Imports.{◌≡◌, ℕ, zero, suc, ◌+◌, ◌-◌, ◌%◌, ◌<◌, ◌≤◌, Bool, true, false, ◌&&◌, ◌||◌, nat_le, nat_lt, List, [], ◌∷◌, ◌++◌, length, drop, get_or, encode_utf8, encode_utf8_all, len_utf8, IsUtf8, inl, inr, refl, sym, ap, ◌∙◌, subst, arith, cases_lt, nat_tests, length-append, length-encode, encode_ascii, encodes-chars, IsUtf8-past_char, get_or-append-add}
 use Rattle.std.proofs.Common.{◌/◌, chars}
 use Rattle.std.specs.Prelude.{nat_eq}
 use Rattle.ucd_case.specs.CaseFolding.{full_folding}
@@ -30,17 +30,18 @@ keeps_to end (s ∷ ss) = nat_le end s.0 && nat_eq (length s.1) 0
 
 keeps_by_step : {V : Type 0} (d : List V) (ss : List (ℕ × List V)) (end c : ℕ) → keeps_to end ss ≡ true → c < end
     → nat_eq (length (step_value d ss c)) 0 ≡ true
-keeps_by_step d [] end c h below = cc
-keeps_by_step d (s ∷ ss) end c h below =
-    grind (arith, and_parts, nat_le, step_value-here, leb-true)
+keeps_by_step d ss end c h h2 = grind (arith, step_value-here)
 
 -- folding changes no character from U+0800 to U+0FFF
 three_bytes : (c : ℕ) → 2048 ≤ c → c < 4096 → keeps_itself c ≡ true
 unfolding tables full_folding_stepped skip
 three_bytes c from below =
     let s = full_folding_stepped in
-    ap (λ v. nat_eq (length v) 0) (s.gives c ∙ sym (step_value-skip s.default s.steps 2048 c from))
-    ∙ keeps_by_step s.default (skip s.steps 2048) 4096 c refl below
+    cc (
+      s.gives c,
+      step_value-skip s.default s.steps 2048 c from,
+      keeps_by_step s.default (skip s.steps 2048) 4096 c refl below,
+    )
 
 -- the first two bytes of a character, and what folding does with it
 kept_start : (c : ℕ) (rest : List ℕ) → is_stop_at (encode_utf8 c ++ rest) 0 ≡ false → keeps_itself c ≡ true
@@ -87,62 +88,55 @@ goes_on_at [] rest k h below = absurd (omega (arith, below))
 goes_on_at (y ∷ ys) rest zero h below = h.0
 goes_on_at (y ∷ ys) rest (suc k) h below = goes_on_at ys rest k h.1 (omega (arith, below))
 
-after_first : (x : ℕ) (ys bytes rest : List ℕ) (k : ℕ) → bytes ≡ x ∷ ys → GoOn ys → 0 < k → k < length bytes
-    → is_capital_or_first (get_or (bytes ++ rest) k 0) ≡ false
-after_first x ys bytes rest zero is h some below = absurd (omega (arith, some))
-after_first x ys bytes rest (suc k) is h some below =
-    grind (arith, goes_on_at)
-
 inside : (c : ℕ) (rest : List ℕ) (k : ℕ) → 0 < k → k < length (encode_utf8 c)
     → is_capital_or_first (get_or (encode_utf8 c ++ rest) k 0) ≡ false
 inside c rest k some below =
-    grind (arith, cases_lt, after_first, encode_ascii, two, goes_on, three, four)
+    grind (arith, encode_ascii, two, goes_on, three, four)
 
 -- ---- character by character
 
 past : (c : ℕ) (rest : List ℕ) (k : ℕ) → get_or (encode_utf8 c ++ rest) (len_utf8 c + k) 0 ≡ get_or rest k 0
-past c rest k = grind (arith, encode_utf8, length-encode, get_or-append-add)
+past c rest k = grind (arith, length-encode, get_or-append-add)
 
 drop_past : (c : ℕ) (rest : List ℕ) (k : ℕ) → drop (len_utf8 c + k) (encode_utf8 c ++ rest) ≡ drop k rest
-drop_past c rest k = ap (λ n. drop (n + k) (encode_utf8 c ++ rest)) (sym (length-encode c))
-    ∙ drop-append-add (encode_utf8 c) rest k
+drop_past c rest k = cc (length-encode c, drop-append-add (encode_utf8 c) rest k)
 
 stop_past : (c : ℕ) (rest : List ℕ) (k : ℕ) → is_stop_at (encode_utf8 c ++ rest) (len_utf8 c + k) ≡ is_stop_at rest k
 stop_past c rest k =
     let next : len_utf8 c + k + 1 ≡ len_utf8 c + (k + 1) = omega arith in
-    grind (arith, past, encode_utf8)
+    grind (arith, past)
 
 kept_walk : (cs : List ℕ) (n : ℕ) → IsUtf8 (encode_utf8_all cs) → n ≤ length (encode_utf8_all cs)
     → ((k : ℕ) → k < n → is_stop_at (encode_utf8_all cs) k ≡ false)
     → (n < length (encode_utf8_all cs) → is_capital_or_first (get_or (encode_utf8_all cs) n 0) ≡ true)
     → FrontRead keeps_itself (encode_utf8_all cs) n (drop n (encode_utf8_all cs))
 kept_walk cs zero utf8 within passed end = front_read-start keeps_itself _ _ utf8 refl
-kept_walk [] (suc n) utf8 within passed end = absurd (omega (arith, within))
+kept_walk [] (suc n) utf8 within passed end = absurd (omega arith)
 kept_walk (c ∷ cs) (suc n) utf8 within passed end =
     elim (cases_lt (suc n) (len_utf8 c)) [
       | inl cut ↦
           let long = length-append (encode_utf8 c) rest in
-          let stop = end (omega (arith, cut, long, length-encode c)) in
+          let stop = end (omega (arith, cut, length-encode c)) in
           let on = inside c rest (suc n) (omega arith) (omega (arith, cut, length-encode c)) in
           cc
       | inr whole ↦
           let m : ℕ = suc n - len_utf8 c in
-          let place : len_utf8 c + m ≡ suc n = omega (arith, whole) in
+          let place : len_utf8 c + m ≡ suc n = omega arith in
           let long = length-append (encode_utf8 c) rest in
           let first = front_read-pass keeps_itself text 0 text c rest
           (front_read-start keeps_itself text text utf8 refl)
           refl (kept_start c rest (passed 0 (omega arith))) in
           let others = kept_walk cs m (IsUtf8-past_char text rest c utf8 refl)
-          (omega (arith, within, long, place, length-encode c))
-          (λ k below. sym (stop_past c rest k) ∙ passed (len_utf8 c + k) (omega (arith, below, place)))
+          (omega arith)
+          (λ k below. sym (stop_past c rest k) ∙ passed (len_utf8 c + k) (omega arith))
           (λ some. ap is_capital_or_first (sym (ap (λ j. get_or text j 0) (sym place) ∙ past c rest m))
-          ∙ end (omega (arith, some, long, place, length-encode c))) in
+          ∙ end (omega arith)) in
           let all : FrontRead keeps_itself text (0 + len_utf8 c + m) (drop m rest) =
           front_read-chain keeps_itself text rest (drop m rest) (0 + len_utf8 c) m first others in
-          let whole_place : 0 + len_utf8 c + m ≡ suc n = omega (arith, place) in
+          let whole_place : 0 + len_utf8 c + m ≡ suc n = omega arith in
           subst (λ j. FrontRead keeps_itself text j (drop (suc n) text)) whole_place
           (subst (FrontRead keeps_itself text (0 + len_utf8 c + m))
-          (sym (ap (λ j. drop j text) (sym place) ∙ drop_past c rest m)) all)
+          (sym (cc (place, drop_past c rest m))) all)
     ]
   where
     rest : List ℕ
@@ -157,10 +151,8 @@ pub kept_quick : (text bytes after : List ℕ) (n : ℕ) → IsUtf8 text → byt
     → (n < length bytes → is_capital_or_first (get_or bytes n 0) ≡ true) → after ≡ drop n text
     → FrontRead keeps_itself text n after
 kept_quick text bytes after n utf8 same within passed end is =
-    subst (FrontRead keeps_itself text n) (sym is)
-    (subst (λ bs. n ≤ length bs → ((k : ℕ) → k < n → is_stop_at bs k ≡ false)
+    rw is (subst (λ bs. n ≤ length bs → ((k : ℕ) → k < n → is_stop_at bs k ≡ false)
     → (n < length bs → is_capital_or_first (get_or bs n 0) ≡ true) → FrontRead keeps_itself text n (drop n text))
-    (sym same)
-    (subst (λ bs. IsUtf8 bs → n ≤ length bs → ((k : ℕ) → k < n → is_stop_at bs k ≡ false)
+    (sym same) (subst (λ bs. IsUtf8 bs → n ≤ length bs → ((k : ℕ) → k < n → is_stop_at bs k ≡ false)
     → (n < length bs → is_capital_or_first (get_or bs n 0) ≡ true) → FrontRead keeps_itself bs n (drop n bs))
     (encodes-chars text utf8) (kept_walk (chars text) n) utf8) within passed end)

@@ -1,12 +1,12 @@
 -- Loops that count the bytes of the front that folding leaves as it is: ASCII and letters beyond it, by turns.
-use Rattle.mail_words.proofs.Imports.{◌≡◌, ℕ, ◌+◌, ◌<◌, ◌≤◌, Bool, true, false, nat_lt, List, [], ◌∷◌, ◌++◌, length, drop, get_or, encode_utf8_all, IsUtf8, refl, ap, ◌∙◌, arith, and_parts, cases_lt, nat_tests, length-append, encodes-append, encodes-chars, encode_ascii, IsCharBoundary, front}
+use Rattle.mail_words.proofs.Imports.{◌≡◌, ℕ, ◌+◌, ◌<◌, ◌≤◌, Bool, false, List, [], ◌∷◌, ◌++◌, length, drop, get_or, encode_utf8_all, IsUtf8, refl, ◌∙◌, arith, length-append, encodes-append, encodes-chars, encode_ascii, IsCharBoundary, front}
 use Rattle.std.proofs.Common.{chars}
 use Rattle.std.proofs.lemmas.Str.{IsUtf8-drop}
 use Rattle.mail_words.specs.Inside.Folds.{keeps_itself, is_kept_byte, is_kept_letter}
 use Rattle.mail_words.proofs.FoldingLemmas.{kept_byte}
 use Rattle.mail_words.proofs.FrontReads.{FrontRead}
-use Rattle.mail_words.proofs.RunLemmas.{front-pass, front-fail, front-after}
-use Rattle.mail_words.proofs.Seams.{front_seam, seam_boundary, seam_back, chars_back, nil_from_bytes}
+use Rattle.mail_words.proofs.RunLemmas.{front-fail, front-after}
+use Rattle.mail_words.proofs.Seams.{front_seam, seam_boundary, nil_from_bytes}
 
 pub front_read-chain : (p : ℕ → Bool) (text rest after : List ℕ) (at n : ℕ) → FrontRead p text at rest
     → FrontRead p rest n after → FrontRead p text (at + n) after
@@ -15,13 +15,10 @@ front_read-chain p text rest after at n h h2 =
 
 -- ---- letters beyond ASCII
 
-letter_kept : (c : ℕ) → is_kept_letter c ≡ true → keeps_itself c ≡ true
-letter_kept c h = grind (arith, and_parts, nat_lt)
-
 front-over : (cs after : List ℕ) → front keeps_itself (front is_kept_letter cs ++ after)
     ≡ front is_kept_letter cs ++ front keeps_itself after
 front-over [] after = refl
-front-over (c ∷ cs) after = grind (arith, front-pass, letter_kept, front-fail, front-over cs after)
+front-over (c ∷ cs) after = grind (arith, front-over cs after)
 
 pub letters_boundary : (text : List ℕ) (n : ℕ) → IsUtf8 text → n
     ≡ length (encode_utf8_all (front is_kept_letter (chars text))) → IsCharBoundary text n
@@ -33,8 +30,8 @@ pub kept_letters : (text after : List ℕ) (n : ℕ) → IsUtf8 text → n
 kept_letters text after n utf8 place is =
     let fore : List ℕ = front is_kept_letter (chars text) in
     let cut = front_seam is_kept_letter text utf8 in
-    let whole : chars text ≡ fore ++ chars after = grind (arith, front-after, chars_back) in
-    grind (arith, encode_utf8_all, front-over, IsUtf8-drop, letters_boundary, seam_back, encodes-append, length-append)
+    let whole : chars text ≡ fore ++ chars after = grind (arith, front-after) in
+    grind (arith, front-over, IsUtf8-drop, encodes-append, length-append)
 
 -- ---- the end
 
@@ -46,10 +43,4 @@ kept_none text utf8 byte none = go (chars text) (encodes-chars text utf8)
     (nil_from_bytes (front is_kept_letter (chars text)) none)
   where
     go : (cs : List ℕ) → encode_utf8_all cs ≡ text → front is_kept_letter cs ≡ [] → front keeps_itself cs ≡ []
-    go [] e f = refl
-    go (c ∷ cs) e f =
-        grind (arith, cases_lt, encode_utf8_all, encode_ascii, front-fail, kept_byte, nat_tests, front-pass)
-
-pub kept_end : (text after : List ℕ) (at : ℕ) → FrontRead keeps_itself text at after → front keeps_itself (chars after)
-    ≡ [] → at ≡ length (encode_utf8_all (front keeps_itself (chars text)))
-kept_end text after at h none = omega (arith, h.whole, ap (λ cs. length (encode_utf8_all cs)) none)
+    go cs h h2 = grind (arith, encode_ascii, front-fail, kept_byte)

@@ -1,8 +1,8 @@
 -- The gap and the word after it, found in the mask of one load.
 use lib.Count.{count_trailing_zeros}
 use lib.Lanes.{chunk, mask_l}
-use Rattle.mail_words.proofs.Imports.{◌≡◌, ℕ, zero, suc, ◌+◌, ◌*◌, ◌%◌, ◌^◌, ◌<◌, ◌≤◌, cond, Bool, true, false, not, List, [], ◌∷◌, length, drop, get_or, nat_lt, ◌||◌, eqb, eqb-true, refl, sym, ap, ◌∙◌, subst, arith, cases_lt, nat_tests, length-map, length-chunk, HasGapAndWord, is_ascii_other, is_ascii_word, is_beyond_ascii, is_no_ascii_word, prefix_len}
-use Rattle.std.proofs.Common.{◌/◌, map, div-one, div-le_self}
+use Rattle.mail_words.proofs.Imports.{◌≡◌, ℕ, zero, suc, ◌+◌, ◌*◌, ◌%◌, ◌^◌, ◌<◌, ◌≤◌, cond, Bool, true, false, not, List, [], ◌∷◌, length, drop, get_or, nat_lt, ◌||◌, eqb, eqb-true, refl, sym, ap, ◌∙◌, subst, arith, nat_tests, length-chunk, HasGapAndWord, is_ascii_other, is_beyond_ascii, is_no_ascii_word, prefix_len}
+use Rattle.std.proofs.Common.{◌/◌, map, div-one}
 use Rattle.std.proofs.lemmas.Bool.{not-true, not-false}
 use Rattle.std.proofs.lemmas.List.{drop-map, get_or-drop, get_or-take, length-drop}
 use Rattle.std.proofs.lemmas.List.Sums.{prefix_len-le-length, prefix_len_passes, prefix_len_stops}
@@ -12,15 +12,13 @@ use Rattle.std.proofs.lemmas.Simd.{mask_l-lt, none_from_empty_mask, trailing_mas
 -- ---- the bits of a mask
 
 halved : (b : Bool) (n : ℕ) → (cond b 1 0 + 2 * n) / 2 ≡ n
-halved true n = omega arith
-halved false n = omega arith
+halved b n = grind arith
 
 -- a shift drops the first bits
 drop_mask : (ms : List Bool) (i : ℕ) → mask_l ms / 2 ^ i ≡ mask_l (drop i ms)
 drop_mask ms zero = div-one (mask_l ms)
-drop_mask [] (suc i) = omega (arith, div-le_self 0 (2 ^ suc i))
-drop_mask (m ∷ ms) (suc i) = ap (λ n. mask_l (m ∷ ms) / 2 ^ n) next ∙ sym (shr-shr (mask_l (m ∷ ms)) 1 i)
-    ∙ ap (λ n. n / 2 ^ i) (halved m (mask_l ms)) ∙ drop_mask ms i
+drop_mask [] (suc i) = omega arith
+drop_mask (m ∷ ms) (suc i) = cc (next, shr-shr (mask_l (m ∷ ms)) 1 i, halved m (mask_l ms), drop_mask ms i)
   where
     next : suc i ≡ 1 + i
     next = omega arith
@@ -37,26 +35,23 @@ module _ (test : ℕ → Bool) where
   -- the place of a set bit is within the mask
   bit_within : (xs : List ℕ) → 0 < mask_l (map test xs) → prefix_len (λ x. not (test x)) xs < length xs
   bit_within [] some = absurd (omega arith)
-  bit_within (x ∷ xs) some = grind (arith, some, bit_within xs)
+  bit_within (x ∷ xs) some = grind (arith, bit_within xs)
 
 -- ---- the bytes of the mask
 
 other_byte : (b : ℕ) → b < 128 → is_no_ascii_word b ≡ true → is_ascii_other b ≡ true
 other_byte b ascii other = grind (arith, nat_tests)
 
-word_byte : (b : ℕ) → is_no_ascii_word b ≡ false → is_ascii_word b ≡ true
-word_byte b fails = grind arith
-
 module _ (bytes : List ℕ) (mask : ℕ) (room : 16 ≤ length bytes)
     (same : mask ≡ mask_l (map is_no_ascii_word (chunk 0 16 bytes))) where
   pub mask_bound : mask < 2 ^ 16
   mask_bound =
       let bits = map is_no_ascii_word (chunk 0 16 bytes) in
-      let long : length bits ≡ 16 = grind (arith, length-map, length-chunk) in
-      grind (arith, long, mask_l-lt)
+      let long : length bits ≡ 16 = grind arith in
+      grind (arith, mask_l-lt)
 
   gap_is : count_trailing_zeros 64 (mask + 1) ≡ prefix_len is_no_ascii_word (chunk 0 16 bytes)
-  gap_is = grind (arith, ones_mask, length-chunk)
+  gap_is = grind (arith, ones_mask)
 
   pub gap_bound : count_trailing_zeros 64 (mask + 1) < 64
   gap_bound = omega (
@@ -79,19 +74,18 @@ ascii_to bytes mask place room within same clear k below = go (eqb mask 0) refl
     long = length-chunk 0 16 bytes room
 
     small : is_beyond_ascii (get_or bytes k 0) ≡ false → get_or bytes k 0 < 128
-    small test = grind (arith, test, nat_tests)
+    small test = grind (arith, nat_tests)
 
     go : (t : Bool) → eqb mask 0 ≡ t → get_or bytes k 0 < 128
     go true none = small (none_from_empty_mask is_beyond_ascii bytes 0 16 0 room (sym same ∙ eqb-true mask 0 none) k
-        (omega arith) (omega (arith, within, below)))
+        (omega arith) (omega arith))
     go false some =
-        let bits : 0 < mask_l (map is_beyond_ascii load) = grind (arith, some, nat_tests) in
+        let bits : 0 < mask_l (map is_beyond_ascii load) = grind arith in
         let first = ap (count_trailing_zeros 64) same
         ∙ trailing_mask_l is_beyond_ascii 64 load (omega (arith, long)) bits in
-        let after : place < count_trailing_zeros 64 mask = grind (arith, some, clear, nat_tests) in
-        small (subst (λ b. is_beyond_ascii b ≡ false) (get_or-take 16 bytes k 0 (omega (arith, within, below)))
-        (not-true _ (prefix_len_passes (λ b. not (is_beyond_ascii b)) load k 0
-        (omega (arith, below, after, first)))))
+        let after : place < count_trailing_zeros 64 mask = grind (arith, nat_tests) in
+        small (rw (get_or-take 16 bytes k 0 (omega arith)) at
+        (not-true _ (prefix_len_passes (λ b. not (is_beyond_ascii b)) load k 0 (omega arith))))
 
 -- the mask of a load in which a word of ASCII begins and ends before the last bit
 module _ (bytes : List ℕ) (mask : ℕ) (room : 16 ≤ length bytes)
@@ -119,7 +113,7 @@ module _ (bytes : List ℕ) (mask : ℕ) (room : 16 ≤ length bytes)
   word = count_trailing_zeros 64 (mask / 2 ^ gap)
 
   word_is : word ≡ prefix_len (λ b. not (is_no_ascii_word b)) rest
-  word_is = grind (arith, rest_is, trailing_mask_l, long, length-drop, some_bit)
+  word_is = grind (arith, rest_is, trailing_mask_l, length-drop)
 
   from_front : gap ≡ prefix_len is_no_ascii_word load
   from_front = gap_is bytes mask room same
@@ -134,33 +128,32 @@ module _ (bytes : List ℕ) (mask : ℕ) (room : 16 ≤ length bytes)
   rest_lane k below = grind (arith, get_or-drop, lane)
 
   in_gap : (k : ℕ) → k < gap → is_no_ascii_word (get_or bytes k 0) ≡ true
-  in_gap k below = subst (λ b. is_no_ascii_word b ≡ true) (lane k (omega (arith, below, within)))
-      (prefix_len_passes is_no_ascii_word load k 0 (omega (arith, below, from_front)))
+  in_gap k below = rw (lane k (omega (arith, within))) at
+      (prefix_len_passes is_no_ascii_word load k 0 (omega (arith, from_front)))
 
   in_word : (k : ℕ) → k < word → is_no_ascii_word (get_or bytes (gap + k) 0) ≡ false
   in_word k below =
-      subst (λ b. is_no_ascii_word b ≡ false) (rest_lane k (omega (arith, below, within)))
-      (not-true _ (prefix_len_passes (λ b. not (is_no_ascii_word b)) rest k 0 (omega (arith, below, word_is))))
+      rw (rest_lane k (omega (arith, within))) at
+      (not-true _ (prefix_len_passes (λ b. not (is_no_ascii_word b)) rest k 0 (omega (arith, word_is))))
 
   end : is_no_ascii_word (get_or bytes (gap + word) 0) ≡ true
   end =
-      subst (λ b. is_no_ascii_word b ≡ true) (ap (λ k. get_or rest k 0) (sym word_is) ∙ rest_lane word within)
+      rw (ap (λ k. get_or rest k 0) (sym word_is) ∙ rest_lane word within) at
       (not-false _ (prefix_len_stops (λ b. not (is_no_ascii_word b)) rest 0
       (bit_within is_no_ascii_word rest some_bit)))
 
   after_gap : is_no_ascii_word (get_or bytes gap 0) ≡ false
   after_gap =
-      subst (λ b. is_no_ascii_word b ≡ false)
-      (ap (λ k. get_or load k 0) (sym from_front) ∙ lane gap (omega (arith, within)))
+      rw (ap (λ k. get_or load k 0) (sym from_front) ∙ lane gap (omega (arith, within))) at
       (prefix_len_stops is_no_ascii_word load 0 (omega (arith, from_front, within, long)))
 
   some : 0 < word
   some =
-      grind (arith, cases_lt, end, after_gap)
+      grind (arith, end, after_gap)
 
   shown_places : ((k : ℕ) → k ≤ gap + word → get_or bytes k 0 < 128) → HasGapAndWord bytes gap word
   shown_places ascii =
-      grind (arith, within, some, in_gap, other_byte, in_word, word_byte, end)
+      grind (arith, within, some, in_gap, other_byte, in_word, end)
 
   pub shown_clear : (beyond : ℕ) → beyond ≡ mask_l (map is_beyond_ascii (chunk 0 16 bytes))
       → (eqb beyond 0 || nat_lt (gap + word) (count_trailing_zeros 64 beyond)) ≡ true → HasGapAndWord bytes gap word

@@ -1,6 +1,6 @@
 -- The bytes that are word characters, found from the mask of one load.
 use lib.Lanes.{Each1, chunk, mask_l, top}
-use Rattle.mail_words.proofs.Imports.{◌≡◌, ℕ, ◌+◌, ◌-◌, ◌%◌, ◌^◌, ◌<◌, ◌≤◌, Bool, true, false, not, List, [], ◌∷◌, length, get_or, Fits, w8, refl, ap, ap₂, ◌∙◌, subst, arith, inl, inr, agree_below, agree_below_at, cases_lt, length-map, map-map, mask_l-mod, length-chunk, get_or-chunk, prefix_len}
+use Rattle.mail_words.proofs.Imports.{◌≡◌, ℕ, ◌+◌, ◌-◌, ◌%◌, ◌^◌, ◌<◌, ◌≤◌, Bool, true, not, List, [], ◌∷◌, length, get_or, Fits, w8, refl, ap, ap₂, ◌∙◌, subst, arith, inl, inr, agree_below, agree_below_at, cases_lt, length-map, map-map, mask_l-mod, length-chunk, get_or-chunk, prefix_len}
 use Rattle.std.proofs.Common.{map}
 use Rattle.std.proofs.lemmas.List.Sums.{prefix_len-le-length, prefix_len_passes}
 
@@ -14,17 +14,15 @@ pub lanes_mask : (test : ℕ → Bool) (f : ℕ → ℕ) (load z : List ℕ) →
     ≡ map f load → agree_below (λ b. top 7 (f b)) test 256 ≡ true
     → mask_l (map (top 7) z) % 2 ^ 64 ≡ mask_l (map test load)
 lanes_mask test f load z few fits lanes all =
-    ap (λ l. mask_l l % 2 ^ 64) (ap (map (top 7)) lanes ∙ map-map (top 7) f load
-    ∙ same_tests (λ b. top 7 (f b)) test load fits all)
-    ∙ mask_l-mod (map test load) 64 (omega (arith, few, length-map load test))
-
--- bytes that don't fail the test pass it
-not_not : (b : Bool) → not (not b) ≡ b
-not_not true = refl
-not_not false = refl
+    cc (
+      lanes,
+      map-map (top 7) f load,
+      same_tests (λ b. top 7 (f b)) test load fits all,
+      mask_l-mod (map test load) 64 (omega (arith, few, length-map load test)),
+    )
 
 pub run_of_not : (test : ℕ → Bool) (load : List ℕ) → prefix_len (λ b. not (not (test b))) load ≡ prefix_len test load
-run_of_not test load = grind (arith, not_not)
+run_of_not test load = grind arith
 
 pub run_bound : (test : ℕ → Bool) (bytes : List ℕ) (at r : ℕ) → at + 16 ≤ length bytes → r
     ≡ prefix_len test (chunk at 16 bytes) → r ≤ 16

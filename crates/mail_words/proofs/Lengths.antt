@@ -1,5 +1,5 @@
 -- Each word has 1 to 128 bytes, because the test of a word has these limits.
-use Rattle.mail_words.proofs.Imports.{◌≡◌, ℕ, zero, suc, ◌≤◌, true, false, List, [], ◌∷◌, ◌++◌, All, length, encode_utf8_all, nat_le, refl, sym, subst, arith, and_parts, leb-true, length-le-encodes, is_word_character, begins, is_word, word_limit, words, HasWordLength, words_left}
+use Rattle.mail_words.proofs.Imports.{◌≡◌, ℕ, ◌≤◌, true, false, List, [], ◌∷◌, ◌++◌, All, length, encode_utf8_all, nat_le, refl, arith, and_parts, length-le-encodes, is_word_character, begins, is_word, word_limit, words, HasWordLength, words_left}
 use Rattle.std.proofs.Common.{chars}
 use Rattle.std.proofs.lemmas.List.Elements.{All-append}
 use Rattle.mail_words.proofs.Places.{if_word, words_on, words_from, words_after-places}
@@ -8,10 +8,6 @@ use Rattle.mail_words.proofs.WordTests.{none_begins}
 all-nil : All HasWordLength []
 all-nil k d below = absurd (omega (arith, below))
 
-all-one : (word : List ℕ) → HasWordLength word → All HasWordLength (word ∷ [])
-all-one word h zero d below = h
-all-one word h (suc k) d below = absurd (omega (arith, below))
-
 begun_length : (cs : List ℕ) → begins is_word_character cs ≡ true → 1 ≤ length (encode_utf8_all cs)
 begun_length [] e = cc
 begun_length (c ∷ cs) e = omega (arith, length-le-encodes (c ∷ cs))
@@ -19,21 +15,10 @@ begun_length (c ∷ cs) e = omega (arith, length-le-encodes (c ∷ cs))
 short_of_word : (before inside after : List ℕ) → is_word is_word_character before inside after ≡ true
     → nat_le (length (encode_utf8_all inside)) word_limit ≡ true
 unfolding is_word
-short_of_word before inside after e = grind (arith, and_parts, nat_le, encode_utf8_all)
+short_of_word before inside after e = grind (arith, and_parts)
 
 all-if_word : (before inside after : List ℕ) → All HasWordLength (if_word before inside after)
-all-if_word before inside after = grind (
-  arith,
-  begins,
-  if_word,
-  none_begins,
-  all-nil,
-  encode_utf8_all,
-  all-one,
-  begun_length,
-  leb-true,
-  short_of_word,
-)
+all-if_word before inside after = grind (arith, none_begins, begun_length, short_of_word)
 
 all-words_on : (before inside rest : List ℕ) → All HasWordLength (words_on before inside rest)
 all-words_on before inside [] = all-nil
@@ -54,4 +39,4 @@ words_left-whole text = refl
 
 pub all-words : (text : List ℕ) → All HasWordLength (words text)
 unfolding words
-all-words text = subst (All HasWordLength) (sym (words_after-places [] (chars text))) (all-words_from [] (chars text))
+all-words text = rw (words_after-places [] (chars text)) (all-words_from [] (chars text))

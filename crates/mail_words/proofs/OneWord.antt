@@ -1,5 +1,5 @@
 -- A text is one word if it can be part of a word, begins with a word character, and is the joined front of itself.
-use Rattle.mail_words.proofs.Imports.{◌≡◌, ℕ, ◌≤◌, Bool, true, false, not, ◌&&◌, ◌||◌, List, [], ◌∷◌, ◌++◌, length, reverse, encode_utf8_all, IsUtf8, nat_le, nat_lt, refl, sym, ap, ◌∙◌, arith, length-append, and-true, and-false, and_parts, le-leb, eq-eqb, eqb-true, reverse-append, encodes-append, encodes-chars, length-le-encodes, length-encode, len_utf8_bounds, list_all, list_any, is_word_character, is_joiner, begins, is_one_word, is_part_of_word, is_word, word_limit, is_piece, front, after_front, joined_to, joined_front}
+use Rattle.mail_words.proofs.Imports.{◌≡◌, ℕ, ◌≤◌, Bool, true, false, not, ◌&&◌, ◌||◌, List, [], ◌∷◌, ◌++◌, length, reverse, encode_utf8_all, IsUtf8, nat_le, nat_lt, refl, sym, ap, ◌∙◌, arith, length-append, and-true, and-false, le-leb, eq-eqb, eqb-true, reverse-append, encodes-append, encodes-chars, length-le-encodes, length-encode, len_utf8_bounds, list_all, list_any, is_word_character, is_joiner, begins, is_one_word, is_part_of_word, is_word, word_limit, is_piece, front, after_front, joined_to, joined_front}
 use Rattle.std.proofs.Common.{chars}
 use Rattle.std.specs.Prelude.{◌==◌}
 use Rattle.std.proofs.lemmas.List.{append-nil}
@@ -20,8 +20,7 @@ begins-front p xs ys h = grind arith
 
 pub ends-cons : (p : ℕ → Bool) (c : ℕ) (cs : List ℕ) → is_some cs ≡ true → begins p (reverse (c ∷ cs))
     ≡ begins p (reverse cs)
-ends-cons p c cs h = ap (begins p) (reverse-append (c ∷ []) cs)
-    ∙ begins-front p (reverse cs) (c ∷ []) (is_some-reverse cs h)
+ends-cons p c cs h = cc (reverse-append (c ∷ []) cs, begins-front p (reverse cs) (c ∷ []) (is_some-reverse cs h))
 
 -- ---- the joined front
 
@@ -37,11 +36,11 @@ joined_front-prefix (c ∷ cs) = go (is_word_character c) (is_joiner c) refl ref
   where
     go : (w j : Bool) → is_word_character c ≡ w → is_joiner c ≡ j → (rest : List ℕ) × (cs ≡ joined_front cs ++ rest)
         → (rest : List ℕ) × (c ∷ cs ≡ joined_front (c ∷ cs) ++ rest)
-    go true j e f h = grind (arith, joined_front-word)
+    go true j e f h = grind arith
     go false true e f h =
         let more = joined_to-prefix c cs (joined_front cs) h
-        in grind (arith, joined_front-joiner)
-    go false false e f h = (c ∷ cs, grind (arith, joined_front-other))
+        in grind arith
+    go false false e f h = (c ∷ cs, grind arith)
 
 -- it has word characters and joiners alone
 all-joined_front : (cs : List ℕ) → list_all is_piece (joined_front cs) ≡ true
@@ -88,27 +87,27 @@ joined_front-whole : (cs : List ℕ) → list_all is_piece cs ≡ true
     → (is_some cs ≡ true → begins is_word_character (reverse cs) ≡ true) → joined_front cs ≡ cs
 joined_front-whole [] pieces ended = refl
 joined_front-whole (c ∷ cs) pieces ended =
-    grind (arith, is_some, and_parts, begins, ends-cons, joined_front-word, joined_front-joiner, joined_front-whole cs)
+    grind (arith, ends-cons, joined_front-whole cs)
 
 -- ---- the tests together
 
 pieces_of_words : (cs : List ℕ) → list_all is_word_character cs ≡ true → list_all is_piece cs ≡ true
 pieces_of_words [] h = refl
 pieces_of_words (c ∷ cs) h =
-    grind (arith, and_parts, pieces_of_words cs)
+    grind (arith, pieces_of_words cs)
 
 ends_of_words : (cs : List ℕ) → list_all is_word_character cs ≡ true → is_some cs ≡ true
     → begins is_word_character (reverse cs) ≡ true
 ends_of_words [] h some = some
 ends_of_words (c ∷ cs) h some =
-    grind (arith, and_parts, ends-word, ends_of_words cs)
+    grind (arith, ends-word, ends_of_words cs)
 
 -- word characters and joiners without a joiner are word characters
 all_or_joined : (cs : List ℕ) → list_all is_piece cs ≡ true → (list_all is_word_character cs || list_any is_joiner cs)
     ≡ true
 all_or_joined [] h = refl
 all_or_joined (c ∷ cs) h =
-    grind (arith, and_parts, all_or_joined cs)
+    grind (arith, all_or_joined cs)
 
 some_length : (cs : List ℕ) → is_some cs ≡ true → 1 ≤ length cs
 some_length cs h = grind arith
@@ -149,21 +148,21 @@ pub is_one_word-parts : (text : List ℕ) → IsUtf8 text
     (length (encode_utf8_all (joined_front (chars text))) == length text)))
 unfolding is_one_word is_part_of_word is_word
 is_one_word-parts text utf8 =
-    tests_as_one begun (list_all is_word_character cs) (begins is_word_character (reverse cs)) (list_all is_piece cs)
-    (list_any is_joiner cs) (nat_le (length (encode_utf8_all cs)) word_limit) (nat_le 1 (length text)) whole
-    (pieces_of_words cs)
-    (λ b a. ends_of_words cs a (some-begins cs b))
-    (all_or_joined cs)
-    (λ b. le-leb 1 (length text) (omega (arith, bytes, length-le-encodes cs, some_length cs (some-begins cs b))))
-    (λ pieces ended. eq-eqb (length (encode_utf8_all (joined_front cs))) (length text)
-    (ap (λ ds. length (encode_utf8_all ds)) (joined_front-whole cs pieces (λ _. ended)) ∙ bytes))
-    (λ b w.
-    let parts = joined_front-prefix cs in
-    let same = same_length cs (joined_front cs) parts.0 parts.1
-    (eqb-true (length (encode_utf8_all (joined_front cs))) (length text) w ∙ sym bytes) in
-    ap (λ ds. begins is_word_character (reverse ds)) (sym same)
-    ∙ ends-joined_front cs (ap is_some same ∙ some-begins cs b))
-    ∙ ap (λ n. (nat_le 1 (length text) && nat_le n word_limit && list_all is_piece cs) && (begun && whole)) bytes
+    cc (
+      tests_as_one begun (list_all is_word_character cs) (begins is_word_character (reverse cs))
+          (list_all is_piece cs) (list_any is_joiner cs) (nat_le (length (encode_utf8_all cs)) word_limit)
+          (nat_le 1 (length text)) whole (pieces_of_words cs) (λ b a. ends_of_words cs a (some-begins cs b))
+          (all_or_joined cs) (λ b. le-leb 1 (length text)
+          (omega (arith, bytes, length-le-encodes cs, some_length cs (some-begins cs b))))
+          (λ pieces ended. eq-eqb (length (encode_utf8_all (joined_front cs))) (length text)
+          (ap (λ ds. length (encode_utf8_all ds)) (joined_front-whole cs pieces (λ _. ended)) ∙ bytes))
+          (λ b w. let parts = joined_front-prefix cs in let same =
+          same_length cs (joined_front cs) parts.0 parts.1
+          (eqb-true (length (encode_utf8_all (joined_front cs))) (length text) w ∙ sym bytes)
+          in ap (λ ds. begins is_word_character (reverse ds)) (sym same)
+          ∙ ends-joined_front cs (ap is_some same ∙ some-begins cs b)),
+      bytes,
+    )
   where
     cs : List ℕ
     cs = chars text
@@ -188,7 +187,7 @@ all-front p (c ∷ cs) = grind (arith, front-pass, front-fail, all-front p cs)
 front-all : (p : ℕ → Bool) (cs : List ℕ) → list_all p cs ≡ true → front p cs ≡ cs
 front-all p [] h = refl
 front-all p (c ∷ cs) h =
-    grind (arith, and_parts, front-pass, front-all p cs)
+    grind (arith, front-all p cs)
 
 -- the front has as many bytes as the text exactly if all characters pass
 pub whole-front : (p : ℕ → Bool) (text : List ℕ) → IsUtf8 text
@@ -201,7 +200,7 @@ whole-front p text utf8 = go (list_all p (chars text)) (length (encode_utf8_all 
 
     go : (all whole : Bool) → list_all p (chars text) ≡ all
         → (length (encode_utf8_all (front p (chars text))) == length text) ≡ whole → whole ≡ all
-    go true whole e f = grind (arith, eq-eqb, encode_utf8_all, front-all, bytes)
+    go true whole e f = grind (arith, front-all, bytes)
     go false true e f =
         let same = same_length (chars text) (front p (chars text)) (after_front p (chars text))
         (sym (front-after p (chars text))) (eqb-true _ _ f ∙ sym bytes) in

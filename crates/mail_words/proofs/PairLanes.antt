@@ -3,9 +3,8 @@
 use lib.Count.{count_trailing_zeros}
 use lib.Lanes.{chunk, mask_l, top, zip2}
 use mathlib.Core.List.{map-id}
-use Rattle.mail_words.proofs.Imports.{◌≡◌, ℕ, zero, suc, ◌+◌, ◌-◌, ◌*◌, ◌%◌, ◌^◌, ◌<◌, ◌≤◌, cond, Bool, true, false, not, ◌&&◌, ◌||◌, List, [], ◌∷◌, length, get_or, replicate, bit_and, bit_or, eqb, leb, refl, sym, ap, ◌∙◌, subst, arith, inl, inr, cases_lt, mask_l-mod, length-chunk, get_or-chunk, prefix_len, first_set_mask_l}
+use Rattle.mail_words.proofs.Imports.{◌≡◌, ℕ, zero, suc, ◌+◌, ◌-◌, ◌*◌, ◌%◌, ◌^◌, ◌<◌, ◌≤◌, cond, Bool, false, not, ◌&&◌, ◌||◌, List, [], ◌∷◌, length, get_or, replicate, bit_and, bit_or, eqb, leb, refl, sym, ap, ◌∙◌, subst, arith, inl, inr, cases_lt, mask_l-mod, length-chunk, get_or-chunk, prefix_len, first_set_mask_l}
 use Rattle.std.proofs.Common.{map}
-use Rattle.std.proofs.Math.Bool.{or-false}
 use Rattle.std.proofs.lemmas.Bool.{not-true}
 use Rattle.std.proofs.lemmas.List.Sums.{prefix_len-le-length, prefix_len_passes}
 use Rattle.std.proofs.lemmas.Simd.{length-zip2, get_or-zip2}
@@ -16,25 +15,8 @@ use Rattle.mail_words.specs.Inside.Folds.{is_stop, is_stop_at}
 abbrev pub ones : Bool → ℕ
 ones b = cond b 255 0
 
-or_ones : (s t : Bool) → bit_or (ones s) (ones t) ≡ ones (s || t)
-or_ones true true = refl
-or_ones true false = refl
-or_ones false true = refl
-or_ones false false = refl
-
-and_ones : (s t : Bool) → bit_and (ones s) (ones t) ≡ ones (s && t)
-and_ones true true = refl
-and_ones true false = refl
-and_ones false true = refl
-and_ones false false = refl
-
-not_ones : (t : Bool) → 255 - ones t ≡ ones (not t)
-not_ones true = refl
-not_ones false = refl
-
 top_ones : (t : Bool) → top 7 (ones t) ≡ t
-top_ones true = refl
-top_ones false = refl
+top_ones t = grind arith
 
 -- the lanes z have all bits set where the test of the two bytes holds
 pub record Marks (xs ys : List ℕ) (t : ℕ → ℕ → Bool) (z : List ℕ) : Type 0 where
@@ -53,15 +35,15 @@ each h f (x ∷ xs) (y ∷ ys) = ap (λ l. h (f x y) ∷ l) (each h f xs ys)
 
 pub marks-or : {xs ys : List ℕ} {s t : ℕ → ℕ → Bool} {x y : List ℕ} → Marks xs ys s x → Marks xs ys t y
     → Marks xs ys (λ a b. s a b || t a b) (zip2 bit_or x y)
-marks-or {xs = xs} {ys = ys} {s = s} {t = t} h k = grind (arith, both, or_ones)
+marks-or {xs = xs} {ys = ys} {s = s} {t = t} h k = grind (arith, both)
 
 pub marks-and : {xs ys : List ℕ} {s t : ℕ → ℕ → Bool} {x y : List ℕ} → Marks xs ys s x → Marks xs ys t y
     → Marks xs ys (λ a b. s a b && t a b) (zip2 bit_and x y)
-marks-and {xs = xs} {ys = ys} {s = s} {t = t} h k = grind (arith, both, and_ones)
+marks-and {xs = xs} {ys = ys} {s = s} {t = t} h k = grind (arith, both)
 
 pub marks-not : {xs ys : List ℕ} {t : ℕ → ℕ → Bool} {y : List ℕ} → Marks xs ys t y
     → Marks xs ys (λ a b. not (t a b)) (map (λ n. 255 - n) y)
-marks-not {xs = xs} {ys = ys} {t = t} k = grind (arith, each, not_ones)
+marks-not {xs = xs} {ys = ys} {t = t} k = grind (arith, each)
 
 -- ---- comparisons with one byte
 
@@ -131,14 +113,13 @@ pub none_pass : (c f t : ℕ → ℕ → Bool) (xs ys : List ℕ) → mask_l (zi
     → mask_l (zip2 c xs ys) ≡ mask_l (zip2 (λ a b. c a b || f a b && t a b) xs ys)
 none_pass c f t [] ys h = refl
 none_pass c f t (x ∷ xs) [] h = refl
-none_pass c f t (x ∷ xs) (y ∷ ys) h = grind (arith, or-false, none_pass c f t xs ys)
+none_pass c f t (x ∷ xs) (y ∷ ys) h = grind (arith, none_pass c f t xs ys)
 
 -- the lanes before the first whose bit is set
 pub first_bit : (ms : List Bool) (m r : ℕ) → length ms ≡ 16 → m ≡ mask_l ms
     → r ≡ cond (eqb m 0) 16 (count_trailing_zeros 64 m) → r ≡ prefix_len not ms
 first_bit ms m r long same is =
-    is ∙ ap (λ n. cond (eqb n 0) 16 (count_trailing_zeros 64 n)) (same ∙ ap mask_l (sym (map-id ms)))
-    ∙ first_set_mask_l (λ b. b) ms 16 long (omega arith)
+    cc (is, same, map-id ms, first_set_mask_l (λ b. b) ms 16 long (omega arith))
 
 -- ---- two loads of bytes
 

@@ -26,9 +26,6 @@ begins-after p (c ∷ cs) = grind (arith, after-pass, after-fail, begins-after p
 abbrev pub is_some : List ℕ → Bool
 is_some = begins (λ _. true)
 
-pub nil_from_none : (cs : List ℕ) → is_some cs ≡ false → cs ≡ []
-nil_from_none cs h = grind arith
-
 pub joined_front-word : (c : ℕ) (cs : List ℕ) → is_word_character c ≡ true → joined_front (c ∷ cs) ≡ c ∷ joined_front cs
 joined_front-word c cs e = rw (e, joined_front) refl
 

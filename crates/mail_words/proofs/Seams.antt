@@ -9,7 +9,7 @@ use Rattle.mail_words.proofs.RunLemmas.{front-after, is_some}
 scalars-front : (xs ys : List ℕ) → scalars (xs ++ ys) ≡ true → scalars xs ≡ true
 scalars-front [] ys h = refl
 scalars-front (x ∷ xs) ys h =
-    grind (arith, and_parts, scalars, scalars-front xs ys)
+    grind (arith, scalars-front xs ys)
 
 scalars-back : (xs ys : List ℕ) → scalars (xs ++ ys) ≡ true → scalars ys ≡ true
 scalars-back [] ys h = h
@@ -56,11 +56,11 @@ seam_back text xs ys n part s place is = is ∙ ap (λ k. drop k text) place ∙
 
 pub chars_front : (text xs ys : List ℕ) (n : ℕ) (part : List ℕ) → IsSeam text xs ys → n ≡ length (encode_utf8_all xs)
     → part ≡ take n text → chars part ≡ xs
-chars_front text xs ys n part s place is = grind (arith, seam_front)
+chars_front text xs ys n part s place is = grind arith
 
 pub chars_back : (text xs ys : List ℕ) (n : ℕ) (part : List ℕ) → IsSeam text xs ys → n ≡ length (encode_utf8_all xs)
     → part ≡ drop n text → chars part ≡ ys
-chars_back text xs ys n part s place is = grind (arith, seam_back)
+chars_back text xs ys n part s place is = grind arith
 
 -- the text can be cut after the characters that pass
 pub front_seam : (p : ℕ → Bool) (text : List ℕ) → IsUtf8 text

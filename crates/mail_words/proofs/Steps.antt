@@ -1,8 +1,7 @@
 -- The words that begin at a place, by the character there.
-use Rattle.mail_words.proofs.Imports.{◌≡◌, ℕ, Bool, true, false, ◌&&◌, ◌||◌, List, [], ◌∷◌, ◌++◌, reverse, refl, sym, ap, ap₂, ◌∙◌, append_assoc, arith, and-false, or-true, and_parts, reverse-append, list_all-append, list_any-append, list_all, list_any, is_word_character, is_joiner, begins, after_joiners, is_piece, front, after_front, joined_to, joined_front, within, joined_on, long_at}
-use Rattle.std.proofs.Common.{append-nil}
+use Rattle.mail_words.proofs.Imports.{◌≡◌, ℕ, Bool, true, false, ◌&&◌, ◌||◌, List, [], ◌∷◌, ◌++◌, reverse, refl, ap, ap₂, ◌∙◌, append_assoc, arith, and-false, or-true, reverse-append, list_all-append, list_any-append, list_all, list_any, is_word_character, is_joiner, begins, after_joiners, is_piece, front, after_front, joined_to, joined_front, within, joined_on, long_at}
 use Rattle.mail_words.proofs.Characters.{joiner_is_no_word_character, word_character_is_no_joiner}
-use Rattle.mail_words.proofs.RunLemmas.{front-pass, front-fail, after-pass, after-fail, begins-after, is_some, nil_from_none, joined_front-word, joined_front-joiner, joined_front-other, is_some-joined_front}
+use Rattle.mail_words.proofs.RunLemmas.{front-pass, front-fail, after-pass, begins-after, is_some, joined_front-joiner, joined_front-other, is_some-joined_front}
 use Rattle.mail_words.proofs.Places.{words_on}
 use Rattle.mail_words.proofs.WordTests.{is_plain, is_long, none_begins, none_inside, none_of_others, none_ends, none_yet, none_in_run, none_before_end}
 
@@ -68,8 +67,11 @@ words_on-plain : (before inside cs : List ℕ) → list_all is_word_character in
     ≡ plain_first before inside (front is_word_character cs) (after_front is_word_character cs)
 words_on-plain before inside [] all joins first e = cc
 words_on-plain before inside (c ∷ cs) all joins first e =
-    go (begins is_word_character cs) refl (words_on-plain before longer cs all' joins' first)
-    ∙ sym (ap₂ (plain_first before inside) (front-pass is_word_character c cs e) (after-pass is_word_character c cs e))
+    cc (
+      go (begins is_word_character cs) refl (words_on-plain before longer cs all' joins' first),
+      front-pass is_word_character c cs e,
+      after-pass is_word_character c cs e,
+    )
   where
     longer : List ℕ
     longer = inside ++ c ∷ []
@@ -85,9 +87,9 @@ words_on-plain before inside (c ∷ cs) all joins first e =
         ≡ plain_first before longer (front is_word_character cs) (after_front is_word_character cs))
         → words_on before inside (c ∷ cs) ≡ plain_first before inside (c ∷ front is_word_character cs)
         (after_front is_word_character cs)
-    go true more rest = grind (arith, none_yet, longer, joins', words_on, append_assoc)
+    go true more rest = grind (arith, none_yet, joins', append_assoc)
     go false last rest =
-        grind (arith, words_on, longer, is_plain, begins-all, all', front-fail, after-fail)
+        grind (arith, is_plain, begins-all, all')
 
 -- ---- a long word
 
@@ -139,49 +141,19 @@ words_on-joined before inside (c ∷ cs) h j =
         → (BeginsLong before longer → IsJoined longer → words_on before longer cs ≡ joined_on longer (joined_front cs))
         → words_on before inside (c ∷ cs) ≡ joined_on inside (joined_front (c ∷ cs))
     go true d true e f m rest =
-        grind (
-          arith,
-          begins_long-push,
-          is_joined-push,
-          none_before_end,
-          longer,
-          joined_on-push,
-          is_some-joined_front,
-          joined_front-word,
-        )
+        grind (arith, begins_long-push, is_joined-push, none_before_end, joined_on-push, is_some-joined_front)
     go true d false e f m rest =
-        grind (
-          arith,
-          begins_long-push,
-          is_joined-push,
-          nil_from_none,
-          is_some-joined_front,
-          is_long,
-          longer,
-          ends-push,
-          append-nil,
-          within,
-          joined_front-word,
-        )
+        grind (arith, begins_long-push, is_joined-push, is_some-joined_front, is_long, ends-push)
     go false true more e f m rest =
-        grind (
-          arith,
-          begins_long-push,
-          is_joined-push,
-          none_ends,
-          longer,
-          ends-push,
-          joined_on-joined_to,
-          joined_front-joiner,
-        )
-    go false false more e f m rest = grind (arith, none_past_other, joined_front-other)
+        grind (arith, begins_long-push, is_joined-push, none_ends, ends-push, joined_on-joined_to)
+    go false false more e f m rest = grind (arith, none_past_other)
 
 -- ---- the words that begin at the first character of a plain word
 
 all_pieces : (cs : List ℕ) → list_all is_word_character cs ≡ true → list_all is_piece cs ≡ true
 all_pieces [] h = refl
 all_pieces (c ∷ cs) h =
-    grind (arith, and_parts, all_pieces cs)
+    grind (arith, all_pieces cs)
 
 all-front : (p : ℕ → Bool) (cs : List ℕ) → list_all p (front p cs) ≡ true
 all-front p [] = refl

@@ -38,11 +38,11 @@ loop-c-init c =
 
 pub loop-c-preserved : goal.loop-c-preserved
 loop-c-preserved c =
-    grind (arith, string_bytes, folds_further, take-append-le, encode_utf8, length-append)
+    grind (arith, folds_further, take-append-le)
 
 pub truncate-requires : goal.truncate-requires
 truncate-requires c =
-    grind (arith, string_bytes, IsUtf8-had, IsCharBoundary-from_take)
+    grind (arith, IsUtf8-had, IsCharBoundary-from_take)
 
 pub returns-in-Err-clause-full : goal.returns-in-Err-clause-full
 returns-in-Err-clause-full c =

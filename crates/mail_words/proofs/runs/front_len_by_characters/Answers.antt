@@ -1,5 +1,5 @@
 -- `front_len_by_characters` passes characters of two bytes, and leaves the others to `front_len_of_any`.
-use Rattle.mail_words.proofs.Imports.{sym, ◌∙◌, arith}
+use Rattle.mail_words.proofs.Imports.{◌∙◌, arith}
 use Rattle.mail_words.proofs.ByteReads.{front_bytes-boundary, front_bytes-more, length-front}
 use Rattle.mail_words.proofs.CharBytes.{pair_pass, pair_stop}
 use Rattle.mail_words.proofs.runs.front_len_by_characters.Goals as goal
@@ -16,5 +16,4 @@ returns-then-not-has g c =
 
 pub loop-c-preserved : goal.loop-c-preserved
 loop-c-preserved g c =
-    pair_pass _ _ _ _ _ c.loop-c.invariant c.as_bytes-bytes.ensures.value c.in-Some.ensures
-    (sym c.has.ensures ∙ c.if-not-has.false)
+    grind (arith, pair_pass)

@@ -30,7 +30,7 @@ pub split_at-requires-2 : goal.split_at-requires-2
 split_at-requires-2 c =
     let joined = joined_is _ _ _ _ c.utf8.text c.requires c.split_at.ensures.back c.joined_len-joined.ensures in
     let cut = long_seam c.args.text.now c.utf8.text in
-    grind (arith, seam_boundary, length-long_front)
+    grind (arith, length-long_front)
 
 pub returns : goal.returns
 returns c = grind (arith, joined_is, long_at-short, length-long_front)

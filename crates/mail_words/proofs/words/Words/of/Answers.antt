@@ -1,5 +1,5 @@
 -- A new iterator has all words of its text, because none was read yet, and each has the length of a word.
-use Rattle.mail_words.proofs.Imports.{All, sym, subst, HasWordLength}
+use Rattle.mail_words.proofs.Imports.{arith}
 use Rattle.mail_words.proofs.Lengths.{words_left-whole, all-words}
 use Rattle.mail_words.proofs.words.Words.of.Goals as goal
 
@@ -7,5 +7,4 @@ pub returns-clause-words : goal.returns-clause-words
 returns-clause-words c = words_left-whole c.args.text.now
 
 pub returns-clause-bounded : goal.returns-clause-bounded
-returns-clause-bounded c = subst (All HasWordLength) (sym (words_left-whole c.args.text.now))
-    (all-words c.args.text.now)
+returns-clause-bounded c = grind (arith, words_left-whole, all-words)
