@@ -1,5 +1,5 @@
 -- Cutting bytes at a byte, and when the byte isn't there.
-use Rattle.header_text.proofs.Words.{◌≡◌, ◌∙◌, ◌<◌, ◌≤◌, ◌-◌, ◌++◌, ◌==◌, ℕ, zero, suc, Bool, true, false, List, [], ◌∷◌, Option, Some, None, length, take, drop, get_or, slice_index, refl, ap, arith, option_map, unwrap_or, not, split_while, eq-eqb, eqb-true, take_rest, cut_at}
+use Rattle.header_text.proofs.Words.{◌≡◌, ◌∙◌, ◌<◌, ◌≤◌, ◌-◌, ◌++◌, ◌==◌, ℕ, zero, suc, Bool, true, false, List, [], ◌∷◌, Option, Some, None, length, take, drop, get_or, slice_index, refl, ap, arith, option_map, not, split_while, eq-eqb, take_rest, cut_at}
 
 -- the byte isn't among the bytes
 abbrev pub Lacks : ℕ → List ℕ → Type 0
@@ -46,10 +46,7 @@ cut_at-none c (b ∷ bs) before = cut_at-no c b bs (before 0 (omega arith))
 pub cut_at-is : (c : ℕ) (before after : List ℕ) → Lacks c before → cut_at c (before ++ c ∷ after)
     ≡ Some (before, after)
 cut_at-is c [] after free = cut_at-yes c c after (grind arith)
-cut_at-is c (b ∷ before) after free = grind (arith, cut_at-no, cut_at-is c before after free.1)
-
-same_parts : (p q : List ℕ × List ℕ) → Some p ≡ Some q → p ≡ q
-same_parts p q h = grind (arith, unwrap_or)
+cut_at-is c (b ∷ before) after free = grind (arith, cut_at-is c before after free.1)
 
 pub IsCut-from : (c : ℕ) (bytes before after : List ℕ) → cut_at c bytes ≡ Some (before, after)
     → IsCut c bytes before after
@@ -61,11 +58,11 @@ IsCut-from c (b ∷ bs) before after e = go (b == c) refl (cut_at c bs) refl (Is
 
     go : (t : Bool) → (b == c) ≡ t → (o : Option (List ℕ × List ℕ)) → cut_at c bs ≡ o
         → ((x y : List ℕ) → cut_at c bs ≡ Some (x, y) → IsCut c bs x y) → IsCut c (b ∷ bs) before after
-    go true t o f later = grind (arith, parts, eqb-true)
-    go false t None f later = grind (arith, cut_at-no)
+    go true t o f later = grind arith
+    go false t None f later = grind arith
     go false t (Some (x, y)) f later =
         let inner = later x y f in
-        grind (arith, parts, same_parts, cut_at-no)
+        grind arith
 
 pub Lacks-from : (c : ℕ) (bytes : List ℕ) → cut_at c bytes ≡ None → Lacks c bytes
 Lacks-from c [] e = tt

@@ -1,16 +1,10 @@
 -- What a call leaves if it fails: a front of what it was to leave, or what was there before.
-use Rattle.header_text.proofs.Words.{◌≡◌, ℕ, List, [], ◌++◌, length, take, sym, ◌∙◌, append_assoc, take_at, Extends, IsFront}
+use Rattle.header_text.proofs.Words.{◌≡◌, ℕ, List, [], ◌++◌, length, take, sym, ◌∙◌, append_assoc, take_at, Extends, IsFront, arith}
 
 -- a front of a part at the front is a front of the whole
 pub front-more : (new some rest whole : List ℕ) → Extends new some → some ++ rest ≡ whole → Extends new whole
 front-more new some rest whole h joined =
-    (h.0 ++ rest, cc (joined, h.1, append_assoc new h.0 rest))
-
-pub front-trans : {A : Type 0} (xs ys zs : List A) → IsFront xs ys → IsFront ys zs → IsFront xs zs
-front-trans {A} xs ys zs first second = (
-  first.0 ++ second.0,
-  cc (second.1, first.1, append_assoc xs first.0 second.0),
-)
+    grind (arith, append_assoc)
 
 -- the added items are cut off
 pub taken_back : {A : Type 0} (old new : List A) (start : ℕ) → IsFront old new → start ≡ length old → take start new

@@ -38,7 +38,7 @@ pub use Rattle.header_text.specs.declared.field_list.FieldPlace.{FieldPlace}
 pub use Rattle.header_text.specs.declared.header.Stage.TheVariants.{Ended, Full, Open}
 unfoldable pub use Rattle.mbox_cutter.specs.Lines.{is_empty}
 pub use Rattle.std.proofs.Common.{Bool, Bor, List, None, Option, Some, [], add-one, ap, append-nil, append_assoc, ap₂, arith, cond, drop, encode_utf8_all, false, filter, get_or, inl, inr, length, length-append, length-drop, length-take, map, nat_le, nat_lt, refl, reverse, rules, slice_index, slice_set, subst, suc, sym, take, true, zero, ℕ, ◌%◌, ◌&&◌, ◌*◌, ◌++◌, ◌+◌, ◌-◌, ◌/◌, ◌<◌, ◌==◌, ◌||◌, ◌∙◌, ◌∷◌, ◌≡◌, ◌≤◌, ◌⊎◌}
-pub use Rattle.std.proofs.lemmas.Bool.{agree_below_at, and_parts, cases_eq, cases_lt, eq-eqb, eqb-true, false_from_ne_true, lt-ltb, ltb-true, ne_eqb, not-true}
+pub use Rattle.std.proofs.lemmas.Bool.{agree_below_at, and_parts, cases_lt, eq-eqb, eqb-true, false_from_ne_true, lt-ltb, ne_eqb}
 pub use Rattle.std.proofs.lemmas.Bool.Decides.{nat_tests}
 pub use Rattle.std.proofs.lemmas.List.{drop-append-le, drop_all, drop_at, drop_more, get_or-map, get_or-set_other, get_or-set_same, get_or-take, length-map, length-set, length-take-le, map-append, nil_from_length, reverse-append, reverse-reverse, take-append-drop, take-append-le, take_all, take_at, take_more_set, take_rest}
 pub use Rattle.std.proofs.lemmas.List.Elements.{filter-append, filter_map-append}

@@ -20,21 +20,13 @@ whole-cons_yes : (o : Option HeaderField) (l : List ℕ) (ls : List (List ℕ)) 
     → whole o (l ∷ ls) ≡ whole (grown o l) ls
 whole-cons_yes o l ls e = grind (arith, with_continuations-grown)
 
-whole-cons_no : (o : Option HeaderField) (l : List ℕ) (ls : List (List ℕ)) → is_continuation l ≡ false
-    → whole o (l ∷ ls) ≡ with_continuations o [] (whole (field_of_line l) ls)
-whole-cons_no o l ls e = rw (e, continued_and_fields) refl
-
-with_continuations-append : (o : Option HeaderField) (more : List ℕ) (later end : List HeaderField)
-    → with_continuations o more (later ++ end) ≡ with_continuations o more later ++ end
-with_continuations-append o more later end = grind arith
-
 is_some-grown : (o : Option HeaderField) (l : List ℕ) → is_some (grown o l) ≡ is_some o
 is_some-grown o l = grind arith
 
 -- a last line that isn't a continuation
 whole-push_no : (o : Option HeaderField) (ls : List (List ℕ)) (l : List ℕ) → is_continuation l ≡ false
     → whole o (ls ++ l ∷ []) ≡ whole o ls ++ whole (field_of_line l) []
-whole-push_no o [] l e = grind (arith, with_continuations-append)
+whole-push_no o [] l e = grind arith
 whole-push_no o (k ∷ ks) l e = go (λ p. whole-push_no p ks l e) (is_continuation k) refl
   where
     go : ((p : Option HeaderField) → whole p (ks ++ l ∷ []) ≡ whole p ks ++ whole (field_of_line l) []) → (t : Bool)
@@ -47,14 +39,6 @@ record Continued (o : Option HeaderField) (ls : List (List ℕ)) (l : List ℕ) 
   goes : opened ≡ true → (whole o (ls ++ l ∷ []) ≡ onto_last l (whole o ls)) × (0 < length (whole o ls))
   skips : opened ≡ false → whole o (ls ++ l ∷ []) ≡ whole o ls
 
-onto_last-front : (o : Option HeaderField) (l more : List ℕ) (fs : List HeaderField) → 0 < length fs
-    → with_continuations o more (onto_last l fs) ≡ onto_last l (with_continuations o more fs)
-onto_last-front o l more fs h = grind arith
-
-length-with_continuations : (o : Option HeaderField) (more : List ℕ) (fs : List HeaderField)
-    → length fs ≤ length (with_continuations o more fs)
-length-with_continuations o more fs = grind arith
-
 continued : (o : Option HeaderField) (ls : List (List ℕ)) (l : List ℕ) → is_continuation l ≡ true
     → Continued o ls l (is_field_open_after_lines (is_some o) ls)
 continued None [] l e = grind arith
@@ -65,15 +49,7 @@ continued o (k ∷ ks) l e = go (λ p. continued p ks l e) (is_continuation k) r
         → is_continuation k
         ≡ t
         → Continued o (k ∷ ks) l (is_field_open_after_lines (is_field_open_after (is_some o) k) ks)
-    go h t h2 = grind (
-      arith,
-      is_some,
-      is_some-grown,
-      whole-cons_yes,
-      whole-cons_no,
-      onto_last-front,
-      length-with_continuations,
-    )
+    go h t h2 = grind (arith, is_some-grown, whole-cons_yes)
 
 -- one more line
 pub fields_in-push : (ls : List (List ℕ)) (l : List ℕ) → fields_in (ls ++ l ∷ [])
@@ -119,7 +95,7 @@ field_of_line-size l =
     let parts = split_while is_field_name_byte l in
     let sizes : length parts.0 + length parts.1 ≡ length l =
     cc (length-append parts.0 parts.1, split_while-joined is_field_name_byte l) in
-    omega (arith, named-size parts.0 (after_blanks parts.1), length-after_blanks parts.1, sizes)
+    omega (arith, named-size parts.0 (after_blanks parts.1), length-after_blanks parts.1)
 
 -- a name that isn't empty, and a colon
 pub named-begins : (name rest : List ℕ) → 0 < length name → 1 ≤ length rest → get_or rest 0 0 ≡ 0x3A

@@ -1,5 +1,5 @@
 -- Reading text after text, each up to a `>`, gives the ids of a value.
-use Rattle.header_text.proofs.Words.{◌≡◌, ◌∙◌, ◌+◌, ◌<◌, ◌≤◌, ◌++◌, ◌==◌, ℕ, zero, suc, Bool, true, false, nat_lt, List, [], ◌∷◌, Option, Some, None, length, drop, get_or, slice_index, map, refl, ap, subst, arith, filter, IfSome, Vec, length-map, get_or-map, ltb-true, ids_of, ids_size, onto_first, closed_texts, after_last_open, ids_of_texts}
+use Rattle.header_text.proofs.Words.{◌≡◌, ◌∙◌, ◌+◌, ◌<◌, ◌≤◌, ◌++◌, ◌==◌, ℕ, zero, suc, Bool, true, false, List, [], ◌∷◌, Option, Some, None, length, drop, get_or, slice_index, map, refl, ap, subst, arith, filter, IfSome, Vec, length-map, get_or-map, ids_of, ids_size, onto_first, closed_texts, after_last_open, ids_of_texts}
 use Rattle.std.specs.Global.{Global}
 use Rattle.std.specs.Prelude.{All}
 use Rattle.header_text.proofs.HeaderLaws.IdRanges.{ids_of-closed}
@@ -80,7 +80,7 @@ ids_in-sized n (t ∷ ts) h = go (after_last_open t) refl (after_last_open-short
     go : (o : Option (List ℕ)) → after_last_open t ≡ o → IfSome (after_last_open t) (λ u. length u < length t)
         → AreSized n (ids_of_texts ts) → AreSized n (ids_of_texts (t ∷ ts))
     go None e short later = rw e later
-    go (Some u) e short later = grind (arith, nat_lt, ltb-true, filter-short)
+    go (Some u) e short later = grind (arith, filter-short)
 
 -- the number of bytes of texts that end at a `>`, with the `>`
 abbrev closed_size : List (List ℕ) → ℕ
@@ -99,7 +99,7 @@ pub ids_of-size : (value : List ℕ) → ids_size (ids_of value) ≤ length valu
 ids_of-size value =
     let found : ids_size (ids_of value) ≤ closed_size (closed_texts value) =
     grind (arith, ids_of-closed, ids_in-size) in
-    omega (arith, found, closed_texts-size value)
+    omega (arith, closed_texts-size value)
 
 All-sized : (n : ℕ) (ids : List (List ℕ)) → AreSized n ids → (k : ℕ) (d : List ℕ) → k < length ids
     → (0 < length (get_or ids k d)) × (length (get_or ids k d) ≤ n)

@@ -1,5 +1,5 @@
 -- The ids found by their ranges are those of the texts up to each `>`.
-use Rattle.header_text.proofs.Words.{◌≡◌, ◌∙◌, ◌++◌, ◌&&◌, ◌==◌, ℕ, Bool, true, false, cond, List, [], ◌∷◌, Option, Some, None, refl, ap, ap₂, append_assoc, append-nil, inl, inr, ◌⊎◌, nat_lt, arith, list_all, map-append, filter-append, filter_map-append, eqb-true, open_sign, close_sign, begins_with_byte, is_inside_id, is_id_range, kept_ids, ids_of, closed_texts, after_last_open, ids_of_texts}
+use Rattle.header_text.proofs.Words.{◌≡◌, ◌∙◌, ◌++◌, ◌&&◌, ◌==◌, ℕ, Bool, true, false, cond, List, [], ◌∷◌, Option, Some, None, refl, ap, ap₂, append_assoc, append-nil, inl, inr, ◌⊎◌, nat_lt, arith, list_all, map-append, filter-append, eqb-true, open_sign, close_sign, begins_with_byte, is_inside_id, is_id_range, kept_ids, ids_of, closed_texts, after_last_open, ids_of_texts}
 use Rattle.std.proofs.lemmas.List.Folds.{list_all-append}
 use Rattle.contract_words.proofs.RangePlaces.{seen_on, seen_from, if_passes, seen_after-places}
 use Rattle.header_text.proofs.CutLemmas.{Lacks}
@@ -8,9 +8,6 @@ use Rattle.header_text.proofs.CutLemmas.{Lacks}
 
 not_first : (a b c : Bool) → a ≡ false → (a && b && c) ≡ false
 not_first a b c e = rw e refl
-
-all_three : (a b c : Bool) → a ≡ true → b ≡ true → c ≡ true → (a && b && c) ≡ true
-all_three a b c e f g = rw (e, f, g) refl
 
 -- ---- the ids that begin with some bytes, and those that begin in the rest
 
@@ -26,9 +23,6 @@ one = if_passes is_id_range (λ bs. bs)
 refused : (before inside after : List ℕ) → is_id_range before inside after ≡ false → one before inside after ≡ []
 refused before inside after e = ap (λ (t : Bool). cond t (inside ∷ []) []) e
 
-taken : (before inside after : List ℕ) → is_id_range before inside after ≡ true → one before inside after ≡ inside ∷ []
-taken before inside after e = ap (λ (t : Bool). cond t (inside ∷ []) []) e
-
 -- one more byte inside
 inside_more : (inside : List ℕ) (b : ℕ) → list_all is_inside_id inside ≡ true → is_inside_id b ≡ true
     → list_all is_inside_id (inside ++ b ∷ []) ≡ true
@@ -38,14 +32,8 @@ broken_more : (inside : List ℕ) (b : ℕ) → list_all is_inside_id inside ≡
     → list_all is_inside_id (inside ++ b ∷ []) ≡ false
 broken_more inside b e = grind (arith, list_all-append)
 
-and_false : (a : Bool) → (a && false) ≡ false
-and_false a = grind arith
-
 broken_by : (inside : List ℕ) (b : ℕ) → is_inside_id b ≡ false → list_all is_inside_id (inside ++ b ∷ []) ≡ false
-broken_by inside b e = grind (arith, list_all-append, and_false)
-
-is_inside : (b : ℕ) → (b == open_sign) ≡ false → (b == close_sign) ≡ false → is_inside_id b ≡ true
-is_inside b e f = rw (e, f) refl
+broken_by inside b e = grind (arith, list_all-append)
 
 -- no `<` is directly before them
 on-unopened : (before inside rest : List ℕ) → begins_with_byte open_sign before ≡ false → ids_on before inside rest ≡ []
@@ -96,9 +84,9 @@ on-found : (before inside u rest : List ℕ) → begins_with_byte open_sign befo
     → ids_on before inside (u ++ close_sign ∷ rest) ≡ unless_none u (inside ++ u)
 on-found before inside [] rest e f unopened unclosed = on-sign before inside rest close_sign refl
 on-found before inside (b ∷ []) rest e f unopened unclosed =
-    grind (arith, inside_more, is_inside, unopened, unclosed, taken, before, all_three, on-sign)
+    grind (arith, inside_more, on-sign)
 on-found before inside (b ∷ c ∷ u) rest e f unopened unclosed =
-    grind (arith, inside_more, is_inside, refused_open, append_assoc, on-found before (inside ++ b ∷ []) (c ∷ u) rest e)
+    grind (arith, inside_more, append_assoc, on-found before (inside ++ b ∷ []) (c ∷ u) rest e)
 
 -- ---- of the bytes before, it matters only whether a `<` comes last
 
@@ -141,10 +129,6 @@ from-end before (b ∷ x) free = grind (arith, on-end, from-end (b ∷ before) x
 
 kept-append : (xs ys : List (List ℕ)) → kept_ids (xs ++ ys) ≡ kept_ids xs ++ kept_ids ys
 kept-append xs ys = grind (arith, nat_lt, map-append, filter-append)
-
-pub ids_in-cons : (text : List ℕ) (texts : List (List ℕ)) → ids_of_texts (text ∷ texts)
-    ≡ ids_of_texts (text ∷ []) ++ ids_of_texts texts
-ids_in-cons text texts = grind (arith, filter_map-append, kept-append)
 
 -- a `<` is in the text, and none after it
 record LastOpen (text : List ℕ) : Type 0 where
@@ -213,10 +197,7 @@ from-texts front [] free = grind (arith, append-nil, from-end)
 from-texts front (b ∷ bs) free = grind (
   arith,
   lacks_more,
-  onto_text-nil,
-  eqb-true,
   from-text,
-  ids_in-cons,
   append-nil,
   append_assoc,
   from-texts [] bs,

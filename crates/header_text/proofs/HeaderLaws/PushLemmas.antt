@@ -1,5 +1,5 @@
 -- The state of a Header after one more line, for each stage before the line.
-use Rattle.header_text.proofs.Words.{◌≡◌, ◌∙◌, ◌+◌, ◌-◌, ◌≤◌, ◌<◌, ◌++◌, ◌||◌, ◌⊎◌, inl, inr, ℕ, Bool, true, false, nat_le, nat_lt, List, [], ◌∷◌, length, refl, sym, ap, arith, length-append, cases_lt, nat_tests, is_empty, HeaderField, most_in_header, lines_before_empty, lines_within, header, fields_of, is_field_open_after, fields_with, has_empty, lines_size, stage_of, stage_after, Open, Full, Ended}
+use Rattle.header_text.proofs.Words.{◌≡◌, ◌∙◌, ◌+◌, ◌-◌, ◌≤◌, ◌<◌, ◌++◌, ◌||◌, ◌⊎◌, inl, inr, ℕ, Bool, true, false, nat_le, nat_lt, List, [], ◌∷◌, length, refl, sym, ap, arith, length-append, cases_lt, is_empty, HeaderField, most_in_header, lines_before_empty, lines_within, header, fields_of, is_field_open_after, fields_with, has_empty, lines_size, stage_of, stage_after, Open, Full, Ended}
 use Rattle.header_text.specs.HeldLines.{Holds, taken_of}
 use Rattle.header_text.specs.declared.header.Stage.{Stage}
 use Rattle.header_text.specs.declared.header.Taken.TheVariants.{More, Ended as HeaderEnded}
@@ -47,8 +47,8 @@ stops room (l ∷ ls) more h = grind (arith, stops (room - length l) ls more)
 -- a line that doesn't fit
 overflow : (room : ℕ) (ls : List (List ℕ)) (l : List ℕ) → lines_size ls ≤ room → room - lines_size ls < length l
     → lines_within room (ls ++ l ∷ []) ≡ ls
-overflow room [] l h over = grind (arith, nat_le, nat_tests)
-overflow room (k ∷ ks) l h over = grind (arith, nat_le, overflow (room - length k) ks l (omega arith) (omega arith))
+overflow room [] l h over = grind arith
+overflow room (k ∷ ks) l h over = grind (arith, overflow (room - length k) ks l (omega arith) (omega arith))
 
 pub size-within : (room : ℕ) (ls : List (List ℕ)) → lines_size (lines_within room ls) ≤ room
 size-within room [] = omega arith
@@ -62,7 +62,7 @@ stage_of-ended ls h = rw h refl
 
 stage_of-full : (ls : List (List ℕ)) → has_empty ls ≡ false → length (header ls) < length ls → stage_of ls ≡ Full
 unfolding stage_of
-stage_of-full ls h less = grind (arith, nat_lt, nat_tests)
+stage_of-full ls h less = grind arith
 
 stage_of-open : (ls : List (List ℕ)) → has_empty ls ≡ false → header ls ≡ ls → stage_of ls ≡ Open
 unfolding stage_of
@@ -105,7 +105,6 @@ steps-open : (ls : List (List ℕ)) (l : List ℕ) (stage : Stage) (size : ℕ) 
 steps-open ls l stage size h e s n fits =
     grind (
       arith,
-      cases_lt,
       has_empty-push,
       header-none,
       within-all,
@@ -113,8 +112,6 @@ steps-open ls l stage size h e s n fits =
       overflow,
       stage_of-full,
       length-append,
-      nat_lt,
-      nat_tests,
       lines_size-push,
     )
 

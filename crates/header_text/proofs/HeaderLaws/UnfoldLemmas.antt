@@ -88,13 +88,13 @@ pub unfolds-line : (old body items rest line after new : List ℕ) → Unfolds o
     → new ≡ items ++ added_part (nat_lt (length old) (length items)) (without_final_cr line)
     → Unfolds old body new after
 unfolds-line old body items rest line after new h cut e =
-    grind (arith, nat_lt, is_some-test, breaks-cut, append_assoc, led-append)
+    grind (arith, is_some-test, breaks-cut, append_assoc, led-append)
 
 pub unfolds-end : (old body items rest new : List ℕ) → Unfolds old body items rest → Lacks 0x0A rest
     → new ≡ items ++ added_part (nat_lt (length old) (length items)) rest → new
     ≡ old ++ after_blanks (without_breaks body)
 unfolds-end old body items rest new h free e =
-    grind (arith, nat_lt, is_some-test, append_assoc, breaks-free)
+    grind (arith, is_some-test, append_assoc, breaks-free)
 
 -- the end is trimmed
 pub unfolded-trimmed : (old body items : List ℕ) → items ≡ old ++ after_blanks (without_breaks body)

@@ -14,14 +14,7 @@ map-character-ascii c (b ∷ bs) h = cc (character-ascii c b (h 0), map-characte
 -- ASCII reads the same in each charset
 pub lossy-ascii : (c : Charset) (bs : List ℕ) → IsAscii bs → encode_utf8_all (lossy_chars bs)
     ≡ encode_utf8_all (map (character c) bs)
-lossy-ascii c bs h = grind (
-  arith,
-  lossy_chars-utf8,
-  IsUtf8-from_ascii,
-  encodes-IsAscii,
-  encode_utf8_all,
-  map-character-ascii,
-)
+lossy-ascii c bs h = grind (arith, lossy_chars-utf8, IsUtf8-from_ascii, encodes-IsAscii, map-character-ascii)
 
 -- ASCII bytes, a byte that isn't ASCII, and the rest
 pub characters-split : (c : Charset) (bs : List ℕ) (at : ℕ) → at < length bs → IsAscii (take at bs)
@@ -32,7 +25,7 @@ characters-split c bs at lt h =
     let ch : ℕ → ℕ = character c in
     let b = slice_index bs at in
     let split : bs ≡ take at bs ++ b ∷ drop (at + 1) bs = grind (arith, take-append-drop, drop_more) in
-    grind (arith, encode_utf8_all, map-append, encodes-append, encode_utf8, lossy-ascii)
+    grind (arith, map-append, encodes-append, lossy-ascii)
 
 pub length-encode_small : (c : ℕ) → c < 65536 → length (encode_utf8 c) ≤ 3
 length-encode_small c lt = rw length-encode (grind (arith, nat_tests))

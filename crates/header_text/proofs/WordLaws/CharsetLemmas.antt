@@ -1,6 +1,6 @@
 -- The charset of a label, found in a table, and the size of a character.
 use Rattle.header_text.proofs.CutLemmas.{split_while-cut, split_while-free}
-use Rattle.header_text.proofs.Words.{◌≡◌, ◌∙◌, Option, Some, None, Bor, sym, option_map, unwrap_or, plain_label, cut_at, ◌<◌, ℕ, zero, suc, true, nat_lt, List, [], ◌∷◌, get_or, arith, list_all, and_parts, ltb-true, charset_named, charset_of, is_named, Bool, refl, length, drop, add-one, if◌then◌else◌, ◌+◌, Charset, Unknown}
+use Rattle.header_text.proofs.Words.{◌≡◌, ◌∙◌, Option, Some, None, Bor, sym, option_map, unwrap_or, plain_label, cut_at, ◌<◌, ℕ, zero, suc, true, nat_lt, List, [], ◌∷◌, get_or, arith, list_all, charset_named, charset_of, is_named, Bool, refl, length, drop, add-one, if◌then◌else◌, ◌+◌, Charset, Unknown}
 use Rattle.std.specs.Prelude.{slice_index_or}
 
 -- the label before its first `*`, or the whole label if it has none
@@ -33,5 +33,5 @@ labelled-at (x ∷ xs) (suc i) d name fits h e =
 -- the characters of a table have at most three bytes each
 pub small-at : (xs : List ℕ) → list_all (λ x. nat_lt x 65536) xs ≡ true → (i : ℕ) → get_or xs i 0 < 65536
 small-at [] h i = omega arith
-small-at (x ∷ xs) h zero = grind (arith, ltb-true, and_parts, nat_lt)
-small-at (x ∷ xs) h (suc i) = grind (arith, and_parts, nat_lt, small-at xs)
+small-at (x ∷ xs) h zero = grind arith
+small-at (x ∷ xs) h (suc i) = grind (arith, small-at xs)

@@ -1,11 +1,11 @@
 -- The decoder reads whole groups of base64 as the definition does.
-use Rattle.header_text.proofs.Words.{◌≡◌, ◌∙◌, ◌==◌, ◌&&◌, ◌<◌, ◌≤◌, ◌+◌, ◌-◌, ◌*◌, ◌/◌, ◌%◌, ◌++◌, ℕ, zero, suc, Bool, true, false, ◌⊎◌, nat_lt, List, [], ◌∷◌, Option, Some, None, length, slice_index, slice_set, take, drop, map, refl, sym, ap, arith, length-append, append_assoc, append-nil, if◌then◌else◌, not, Ok, Result, OnOk, is_none, filter_map, and_parts, eqb-true, ne_eqb, not-true, cases_lt, cases_eq, filter_map-append, drop_more, drop_all, map-append, length-map, length-take-le, take-append-drop, take_at, take_all, take_more_set, length-set, get_or-set_same, get_or-set_other, get_or-take, nat_tests, sextet, bytes_of_sextets, bytes_of_symbols, is_symbol}
+use Rattle.header_text.proofs.Words.{◌≡◌, ◌∙◌, ◌==◌, ◌&&◌, ◌<◌, ◌≤◌, ◌+◌, ◌-◌, ◌*◌, ◌/◌, ◌%◌, ◌++◌, ℕ, zero, suc, Bool, true, false, ◌⊎◌, nat_lt, List, [], ◌∷◌, Option, Some, None, length, slice_index, slice_set, take, drop, map, refl, sym, ap, arith, length-append, append_assoc, append-nil, if◌then◌else◌, not, Ok, Result, OnOk, is_none, filter_map, and_parts, ne_eqb, cases_lt, filter_map-append, drop_more, drop_all, map-append, length-map, length-take-le, take-append-drop, take_at, take_all, take_more_set, length-set, get_or-set_same, get_or-set_other, get_or-take, nat_tests, sextet, bytes_of_sextets, bytes_of_symbols, is_symbol}
 use Rattle.base64.specs.Engines.{standard}
 use Rattle.base64.specs.GeneralPurpose.{decode_slice_of, decoded_bytes_of}
 use Rattle.base64.specs.Decode.{IsWrittenOver, push_leftover, no_leftover, scan_last, suffix_error, suffix_bytes, decode_group, groups_error, groups_bytes, group_error, group_bytes, groups_before_last, symbol_error}
 use Rattle.base64.specs.declared.decode.DecodeSliceError.{DecodeSliceError}
 use Rattle.base64.specs.declared.engine.DecodePaddingMode.TheVariants.{RequireCanonical}
-use Rattle.base64.proofs.Decoding.{length-groups_bytes, scan-cons_ok, scan-nil, suffix_error_of, suffix_bytes_of}
+use Rattle.base64.proofs.Decoding.{length-groups_bytes, scan-cons_ok, scan-nil}
 use Rattle.base64.specs.Tables.{all_below}
 use Rattle.base64.proofs.Tables.{all_below_at}
 
@@ -41,13 +41,13 @@ pub record IsSymbol (b : ℕ) : Type 0 where
 
 from_value : (o : Option ℕ) (n : ℕ) → is_value o n ≡ true → o ≡ Some n
 unfolding is_value
-from_value o n h = grind (arith, eqb-true)
+from_value o n h = grind arith
 
 pub symbol : (b : ℕ) → b < 256 → is_symbol b ≡ true → IsSymbol b
 symbol b lt is =
     let parts = if_parts (is_symbol b) (not (b == 61) && (not (value b == 255) && is_value (sextet b) (value b)))
     (is_none (sextet b)) is (all_below_at test 256 b all lt) in
-    grind (arith, and_parts, is_value, not-true, from_value)
+    grind (arith, and_parts, from_value)
 
 pub sextet-other : (b : ℕ) → b < 256 → is_symbol b ≡ false → sextet b ≡ None
 sextet-other b lt no_symbol = none (sextet b)
@@ -118,7 +118,7 @@ module _ (s : List ℕ) (h : AreSymbols s) (bytes : AreBytes s) where
       let group : List ℕ = slice_index s i ∷ slice_index s (i + 1) ∷ slice_index s (i + 2) ∷ slice_index s (i + 3) ∷ []
       in
       let front : length (take i s) ≡ i = length-take-le i s (omega arith) in
-      let size : length (take i s ++ group) ≡ 4 * suc j = omega (arith, length-append (take i s) group, front) in
+      let size : length (take i s ++ group) ≡ 4 * suc j = omega (arith, length-append (take i s) group) in
       let split : s ≡ (take i s ++ group) ++ drop (i + 4) s =
       cc (take-append-drop i s, four i (omega arith), append_assoc (take i s) group (drop (i + 4) s)) in
       grind (arith, take_at)
@@ -195,7 +195,7 @@ module _ (s : List ℕ) (h : AreSymbols s) (bytes : AreBytes s) where
         scan-cons_ok dec 61 i st3 3 d [] st4 push4,
         scan-nil dec 61 i st4 4,
       ) in
-      grind (arith, ne_eqb, suffix_error_of, suffix_bytes_of)
+      grind arith
 
   groups_bytes-suc : (j : ℕ) → groups_bytes dec s (suc j) ≡ groups_bytes dec s j ++ group_bytes dec s (4 * j)
   unfolding groups_bytes
@@ -224,9 +224,9 @@ module _ (s : List ℕ) (h : AreSymbols s) (bytes : AreBytes s) where
   decode_slice_is m e =
       let last : groups_before_last (length s) ≡ m = omega arith in
       let ends = last_group (4 * m) (omega arith) in
-      let lone : (length s % 4 == 1) ≡ false = grind (arith, ne_eqb) in
-      let room : nat_lt (3 * suc m / 3) m ≡ false = grind (arith, nat_tests) in
-      let fits : nat_lt (3 * suc m) (3 * suc m) ≡ false = grind (arith, nat_tests) in
+      let lone : (length s % 4 == 1) ≡ false = grind arith in
+      let room : nat_lt (3 * suc m / 3) m ≡ false = grind arith in
+      let fits : nat_lt (3 * suc m) (3 * suc m) ≡ false = grind arith in
       let len : length (decoded_bytes_of standard s) ≡ 3 * suc m = length-decoded m e in
       grind (arith, groups_error-none)
 
@@ -244,7 +244,7 @@ decoded-into s back new r h bytes some whole room e written =
     grind arith
     in
     let none : drop (length (decoded_bytes_of standard s)) back ≡ [] =
-    grind (arith, drop_all, length-decoded) in
+    grind (arith, drop_all) in
     cc (none, append-nil (decoded_bytes_of standard s), decoded_is s h bytes m size)
 
 -- ---- symbols of any text
@@ -282,11 +282,11 @@ module _ (symbols : List ℕ) (count symbol : ℕ) (size : length symbols ≡ 4)
   pub hold-symbols : AreSymbols (slice_set symbols count symbol)
   hold-symbols k lt =
       let inside : count < length symbols = omega arith in
-      grind (arith, symbol, length-set, each, cases_eq)
+      grind (arith, length-set, each)
     where
       each : count < length symbols → k < 4 → (k ≡ count) ⊎ (k ≡ count → ⊥)
           → is_symbol (slice_index (slice_set symbols count symbol) k) ≡ true
-      each h h2 h3 = grind (arith, get_or-set_same, symbol, get_or-set_other, cases_lt)
+      each h h2 h3 = grind (arith, get_or-set_same, get_or-set_other)
 
   pub hold-bytes : (later old new : List ℕ) → new ≡ old ++ bytes_of_symbols (slice_set symbols count symbol)
       → new ++ bytes_of_symbols later ≡ old ++ bytes_of_symbols (take count symbols ++ symbol ∷ later)

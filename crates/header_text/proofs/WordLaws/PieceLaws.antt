@@ -1,5 +1,5 @@
 -- The pieces of a value are its leftmost encoded words, and no other words are.
-use Rattle.header_text.proofs.Words.{◌≡◌, ◌∙◌, ◌==◌, ◌&&◌, ◌||◌, ◌≤◌, ◌++◌, ℕ, zero, suc, Bool, true, false, nat_lt, nat_le, List, [], ◌∷◌, Option, Some, None, length, refl, sym, ap, arith, length-append, append-nil, option_map, unwrap_or, list_all, eqb-true, and_parts, not-true, ne_eqb, EncodedWord, spelling_of, is_charset_byte, is_text_byte, is_q, is_b, is_well_formed, question, equals_sign, word_and_later, word_at, WordAfter, Pieces, value_pieces, BeginsWord, NoneBegins, AreLeftmost, word_first}
+use Rattle.header_text.proofs.Words.{◌≡◌, ◌∙◌, ◌==◌, ◌&&◌, ◌||◌, ◌≤◌, ◌++◌, ℕ, zero, suc, Bool, true, false, nat_lt, List, [], ◌∷◌, Option, Some, None, length, refl, sym, ap, arith, length-append, append-nil, option_map, list_all, and_parts, EncodedWord, spelling_of, is_charset_byte, is_text_byte, is_q, is_b, is_well_formed, question, equals_sign, word_and_later, word_at, WordAfter, Pieces, value_pieces, BeginsWord, NoneBegins, AreLeftmost, word_first}
 use Rattle.header_text.proofs.CutLemmas.{Lacks, cut_at-is}
 use Rattle.header_text.proofs.WordLaws.WordLemmas.{spells, spelled-append, chain, with_charset, with_encoding, with_text, with_front, in_front, pieces-none, pieces-some, word_at-equals, word_at-other, in_front-append}
 
@@ -17,15 +17,15 @@ parts w h = grind (arith, and_parts)
 Lacks-charset : (bs : List ℕ) → list_all is_charset_byte bs ≡ true → Lacks question bs
 Lacks-charset [] h = tt
 Lacks-charset (b ∷ bs) h =
-    grind (arith, and_parts, not-true, nat_le, Lacks-charset bs)
+    grind (arith, Lacks-charset bs)
 
 Lacks-text : (bs : List ℕ) → list_all is_text_byte bs ≡ true → Lacks question bs
 Lacks-text [] h = tt
 Lacks-text (b ∷ bs) h =
-    grind (arith, and_parts, not-true, nat_le, Lacks-text bs)
+    grind (arith, Lacks-text bs)
 
 letter : (e : ℕ) → (is_q e || is_b e) ≡ true → (e == question) ≡ false
-letter e h = grind (arith, ne_eqb)
+letter e h = grind arith
 
 found : (w : EncodedWord) (later : List ℕ) → is_well_formed w ≡ true
     → word_and_later (question ∷ (w.charset ++ question ∷ w.encoding ∷ question ∷
@@ -64,13 +64,13 @@ begins (b ∷ bs) w h = go (b == equals_sign) refl
         ≡ option_map (λ (f : EncodedWord × List ℕ). f.0) o → Begins (b ∷ bs) w
     at_equals e None f g = absurd (cc (sym g ∙ h))
     at_equals e (Some (v, later)) f g =
-        let same : v ≡ w = grind (arith, unwrap_or) in
+        let same : v ≡ w = grind arith in
         let is = spells bs v later f in
         grind arith
 
     go : (t : Bool) → (b == equals_sign) ≡ t → Begins (b ∷ bs) w
     go false e = absurd (cc (sym (word_at-other b bs e) ∙ h))
-    go true e = grind (arith, eqb-true, at_equals, word_at-equals)
+    go true e = grind (arith, at_equals)
 
 none_begins : (bytes : List ℕ) → word_at bytes ≡ None → (w : EncodedWord) → BeginsWord bytes w → ⊥
 none_begins bytes e w h = grind (arith, word_at-begins)
@@ -97,7 +97,7 @@ within (suc n) (b ∷ bs) le = go (word_at (b ∷ bs)) refl (within n)
         grind (arith, pieces-none, more_in_front)
     go (Some w) e each =
         let is = begins (b ∷ bs) w e in
-        grind (arith, pieces-some, spelled-append, length-append)
+        grind (arith, pieces-some, length-append)
 
 pub are_leftmost : (value : List ℕ) → AreLeftmost value (value_pieces value).words (value_pieces value).rest
 are_leftmost value = within (length value) value (omega arith)

@@ -90,7 +90,7 @@ spells bytes w later h =
     grind (arith, IsCut-from) in
     let r3 : c.value.1 ≡ d.value.0 ++ question ∷ d.value.1 =
     grind (arith, IsCut-from) in
-    let r4 : d.value.1 ≡ equals_sign ∷ e.value = grind (arith, after-one) in
+    let r4 : d.value.1 ≡ equals_sign ∷ e.value = grind arith in
     record {
       joined = joined_parts bytes a.value b.value.0 b.value.1 c.value.0 c.value.1 d.value.0 d.value.1 e.value
           later w r0 r1 r2 r3 r4 made_is.1 is;
@@ -144,7 +144,7 @@ pub pieces-some : (bytes later : List ℕ) (w : EncodedWord) → word_at (equals
     → value_pieces (equals_sign ∷ bytes) ≡ word_first (record { between = []; word = w }) later
 unfolding judged
 pieces-some bytes later w e joined =
-    grind (arith, pieces_after-skip, pieces-cons, judged)
+    grind (arith, pieces_after-skip)
 
 -- no word begins at a byte other than `=`
 pub word_at-other : (b : ℕ) (bs : List ℕ) → (b == equals_sign) ≡ false → word_at (b ∷ bs) ≡ None
@@ -176,13 +176,13 @@ pub seen-more : (value rest plain after_sign : List ℕ) → Seen value rest →
     → word_and_later after_sign ≡ None → Seen value after_sign
 seen-more value rest plain after_sign s h e =
     let cut = IsCut-from equals_sign rest plain after_sign (sym h) in
-    let none : word_at (equals_sign ∷ after_sign) ≡ None = grind (arith, word_at-equals, option_map) in
+    let none : word_at (equals_sign ∷ after_sign) ≡ None = grind (arith, word_at-equals) in
     let passed : value_pieces rest ≡ in_front (plain ++ equals_sign ∷ []) (value_pieces after_sign) =
-    grind (arith, pieces-plain, pieces-none, in_front-append) in
+    grind (arith, pieces-plain, in_front-append) in
     record {
       seen = s.seen ++ (plain ++ equals_sign ∷ []);
       joined = grind (arith, append_assoc);
-      found = grind (arith, passed, in_front-append);
+      found = grind (arith, in_front-append);
     }
 
 -- an `=` at which a word begins
@@ -198,18 +198,7 @@ pub seen-first : (value rest plain after_sign later : List ℕ) (w : EncodedWord
 seen-first value rest plain after_sign later w s h e =
     let cut = IsCut-from equals_sign rest plain after_sign (sym h) in
     let is = spells after_sign w later e in
-    grind (
-      arith,
-      word_at-equals,
-      option_map,
-      append_assoc,
-      length-append,
-      take_at,
-      pieces-plain,
-      pieces-some,
-      append-nil,
-      spelled-append,
-    )
+    grind (arith, word_at-equals, append_assoc, length-append, take_at, pieces-plain, pieces-some, append-nil)
 
 -- no `=` is left
 pub seen-end : (value rest : List ℕ) → Seen value rest → cut_at equals_sign rest ≡ None → value_pieces value
@@ -217,7 +206,7 @@ pub seen-end : (value rest : List ℕ) → Seen value rest → cut_at equals_sig
 seen-end value rest s e =
     let free = Lacks-from equals_sign rest e in
     let alone : value_pieces rest ≡ no_word rest = cc (append-nil rest, pieces-plain rest [] free) in
-    grind (arith, no_word)
+    grind arith
 
 -- what is after an `=` is shorter
 pub seen-shorter : (value rest plain after_sign : List ℕ) → Seen value rest → Some (plain, after_sign)

@@ -2,8 +2,7 @@
 use Rattle.header_text.proofs.Words.{◌≡◌, ◌∙◌, ◌++◌, [], ◌∷◌, length, sym, ap, arith, length-append, append_assoc, append-nil, closed_texts}
 use Rattle.header_text.proofs.CutLemmas.{IsCut, IsCut-from, Lacks-from}
 use Rattle.header_text.proofs.HeaderLaws.IdLemmas.{closed_texts-cut, closed_texts-free}
-use Rattle.header_text.proofs.TextFronts.{front-trans}
-use Rattle.header_text.proofs.HeaderLaws.IdRanges.{ids_in-cons, ids_of-closed}
+use Rattle.header_text.proofs.HeaderLaws.IdRanges.{ids_of-closed}
 use Rattle.header_text.proofs.message_id.push_each.Goals as goal
 use Rattle.header_text.proofs.message_id.push_each.Goals.{In_ok-push_id}
 
@@ -20,7 +19,7 @@ loop-text-preserved c =
     let after = c.in-Some.after.now in
     let texts : closed_texts c.loop-text.rest.now ≡ text ∷ closed_texts after =
     cc ((cut c).joined, closed_texts-cut text after (cut c).free) in
-    grind (arith, append_assoc, ids_in-cons, front-trans)
+    grind (arith, append_assoc)
 
 pub returns-clause-ids : goal.returns-clause-ids
 returns-clause-ids c = grind (arith, append-nil, Lacks-from, closed_texts-free, ids_of-closed)

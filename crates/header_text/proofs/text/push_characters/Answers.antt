@@ -11,7 +11,7 @@ loop-at-preserved c =
     let after : take (length rest - (at + 1)) (drop (at + 1) rest) ≡ drop (at + 1) rest = take_rest rest (at + 1) in
     let pushed : string_bytes c.push.new.self
     ≡ string_bytes c.push_lossy.new.into ++ encode_utf8 (character c.args.charset (slice_index rest at)) =
-    grind (arith, string_bytes, encode_utf8) in
+    grind arith in
     let step = characters-step c.args.charset rest (string_bytes c.loop-at.into) (string_bytes c.push_lossy.new.into)
     (string_bytes c.push.new.self) at
     c.in-Some.ensures.0.high (IsAscii-before rest at c.in-Some.ensures.0.before) c.in_ok-push_lossy.ensures.text pushed
@@ -41,7 +41,7 @@ returns-in_err-push_lossy-clause-front c =
     let later = encode_utf8_all (map (character c.args.charset) (drop (at + 1) rest)) in
     let step = characters-step c.args.charset rest (string_bytes c.loop-at.into) some (some ++ one) at
     c.in-Some.ensures.0.high (IsAscii-before rest at c.in-Some.ensures.0.before) refl refl in
-    grind (arith, front-more, append_assoc)
+    grind (arith, append_assoc)
 
 pub returns-in_err-push-clause-front : goal.returns-in_err-push-clause-front
 returns-in_err-push-clause-front c =

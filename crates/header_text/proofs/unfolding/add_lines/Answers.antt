@@ -19,7 +19,7 @@ loop-line-preserved c =
     let items : List ℕ = c.loop-line.into.items in
     let added : c.add_part.new.into.items ≡ items ++ added_part (nat_lt (length c.args.into.now.items) (length items))
     (without_final_cr line) =
-    grind (arith, nat_lt, without_final_cr-stripped) in
+    grind (arith, without_final_cr-stripped) in
     record {
       sofar = unfolds-line c.args.into.now.items c.args.body.now items c.loop-line.rest.now line c.in-Some.after.now
           c.add_part.new.into.items c.loop-line.invariant.sofar (cut c) added;

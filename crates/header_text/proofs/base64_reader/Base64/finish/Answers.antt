@@ -15,9 +15,9 @@ pub decode_groups-outcome-requires-clause-symbols : goal.decode_groups-outcome-r
 decode_groups-outcome-requires-clause-symbols c =
     let held : List ℕ = symbols_of c.args.self.held in
     let size : length held ≡ c.args.self.held.count =
-    omega (arith, length-take c.args.self.held.count c.args.self.held.symbols) in
+    omega arith in
     let are : AreSymbols held = grind (arith, held-symbols) in
-    grind (arith, AreSymbols, filled-symbols)
+    grind (arith, filled-symbols)
 
 pub returns-clause-bytes : goal.returns-clause-bytes
 returns-clause-bytes c = rw (to_come-end (symbols_of c.args.self.held)

@@ -1,5 +1,5 @@
 -- `FieldList::push` adds one field after the others, because its name and its body are added at the end of all bytes.
-use Rattle.header_text.proofs.Words.{◌≡◌, ◌∙◌, ◌++◌, ℕ, List, [], ◌∷◌, arith, length-append, append_assoc, FieldPlace}
+use Rattle.header_text.proofs.Words.{◌≡◌, ◌∙◌, ◌++◌, ℕ, List, [], ◌∷◌, arith, append_assoc, FieldPlace}
 use Rattle.header_text.proofs.HeaderLaws.PlaceLemmas.{HoldsPushed, pushed}
 use Rattle.header_text.proofs.field_list.FieldList.push.Goals as goal
 use Rattle.header_text.proofs.field_list.FieldList.push.Goals.{After-unwrap-3}
@@ -18,7 +18,7 @@ field c =
     grind arith in
     pushed old c.extend_from_slice-2.new.self.items c.args.field.name.now c.args.field.body.now
     c.self.inside.places.items c.push.new.self.items
-    p.name p.body c.self.invariant bytes places (grind arith) (grind (arith, length-append)) c.requires.name
+    p.name p.body c.self.invariant bytes places (grind arith) (grind arith) c.requires.name
     (rw c.self.view_is c.requires.room)
 
 pub invariant_of-self-2 : goal.invariant_of-self-2
