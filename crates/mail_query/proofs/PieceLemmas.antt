@@ -1,5 +1,5 @@
 -- Laws of cutting a text at a byte.
-use Rattle.mail_query.proofs.Words.{◌≡◌, ◌≢◌, ℕ, suc, ◌-◌, ◌<◌, Bool, true, false, eqb, List, [], ◌∷◌, ◌++◌, length, length-append, take, get_or, Option, Some, None, option_map, MatchOption, refl, ap, ◌∙◌, arith, option_copied, take-append_seam, list_any, or_parts, or_from, nat_tests, is_byte, texts_around, without_first, without_last}
+use Rattle.mail_query.proofs.Words.{◌≡◌, ◌≢◌, ℕ, suc, ◌-◌, ◌<◌, Bool, true, false, eqb, List, [], ◌∷◌, ◌++◌, length, length-append, take, get_or, Option, Some, None, option_map, MatchOption, refl, ap, ◌∙◌, arith, option_copied, take-append_seam, list_any, or_from, nat_tests, is_byte, texts_around, without_first, without_last}
 use denote.Ref.{Bor}
 
 pub none_unless : {A : Type 0} (o : Option A) → ((x : A) → o ≡ Some x → ⊥) → o ≡ None
@@ -19,8 +19,8 @@ without_first-other c bs h = grind (arith, other_byte)
 
 pub without_last-same : (c : ℕ) (front : List ℕ) → without_last c (front ++ c ∷ []) ≡ Some front
 without_last-same c [] = rw same_byte refl
-without_last-same c (b ∷ []) = grind (arith, option_map, without_last-same c [])
-without_last-same c (b ∷ d ∷ front) = grind (arith, option_map, without_last-same c (d ∷ front))
+without_last-same c (b ∷ []) = grind arith
+without_last-same c (b ∷ d ∷ front) = grind (arith, without_last-same c (d ∷ front))
 
 pub without_last-other : (c : ℕ) (bs : List ℕ) → ((front : List ℕ) → bs ≢ front ++ c ∷ []) → without_last c bs ≡ None
 without_last-other c [] h = refl
@@ -42,7 +42,7 @@ none_passes p (b ∷ bs) h = or_from (p b) (list_any p bs) (h 0 (omega arith))
     (none_passes p bs (λ i below. h (suc i) (omega (arith, below))))
 
 free_at : (c : ℕ) (text : List ℕ) → ((i : ℕ) → i < length text → get_or text i 0 ≢ c) → Free c text
-free_at c text h = grind (arith, none_passes, other_byte)
+free_at c text h = grind (arith, none_passes)
 
 onto_front : ℕ → Option (List ℕ × List ℕ) → Option (List ℕ × List ℕ)
 onto_front b o = option_map (λ (p : List ℕ × List ℕ). (b ∷ p.0, p.1)) o
@@ -50,12 +50,12 @@ onto_front b o = option_map (λ (p : List ℕ × List ℕ). (b ∷ p.0, p.1)) o
 pub cut_none : (c : ℕ) (text : List ℕ) → Free c text → texts_around c text ≡ None
 unfolding onto_front
 cut_none c [] h = refl
-cut_none c (b ∷ bs) h = grind (arith, or_parts, onto_front, cut_none c bs)
+cut_none c (b ∷ bs) h = grind (arith, cut_none c bs)
 
 pub cut_at : (c : ℕ) (text rest : List ℕ) → Free c text → texts_around c (text ++ c ∷ rest) ≡ Some (text, rest)
 unfolding onto_front
 cut_at c [] rest h = rw same_byte refl
-cut_at c (b ∷ bs) rest h = grind (arith, or_parts, onto_front, cut_at c bs rest)
+cut_at c (b ∷ bs) rest h = grind (arith, cut_at c bs rest)
 
 -- ---- the last element
 

@@ -1,8 +1,8 @@
 -- The names of std and of the definitions that proofs use, all from one place.
-pub use Rattle.contract_words.proofs.Collecting.{if_some_map, with_front-append, with_front-nil}
+pub use Rattle.contract_words.proofs.Collecting.{if_some_map, with_front-append}
 pub use Rattle.contract_words.specs.Answers.{Gives, fault_as, with_front, ◌>>=◌}
 pub use Rattle.mail_dates.specs.declared.range.Range.{Range}
-pub use Rattle.mail_query.specs.BooleanFaults.{close_fault, deep_fault, end_fault, err_of, fields_before, first_fault, first_fault_from, first_some, is_not, is_wanted, needs_operator, open_count, operator_fault, term_fault, token_fault, waiting_count}
+pub use Rattle.mail_query.specs.BooleanFaults.{close_fault, deep_fault, err_of, fields_before, first_fault, first_fault_from, first_some, is_not, is_wanted, needs_operator, open_count, operator_fault, term_fault, token_fault, waiting_count}
 pub use Rattle.mail_query.specs.BooleanGrammar.{Beside, ByAnd, ByOr, Chain, Group, Item, Last, Leaf, Link, NotOf, Reads, Then, chain_queries, chain_tokens, into_first, is_fine_chain, is_fine_item, item_query, item_tokens, link_tokens, with_link, plain_prefix, query_or_any, seen_after, term_prefix, tree_query}
 pub use Rattle.mail_query.specs.BooleanReading.{ForClose, ForNot, Level, State, Waiting, state_after_close, cut_term_step, deeper, each_ended, empty_level, query_at_end, has_open, is_negated, state_after_and, level_query, level_with_prefix, state_after_or, parts_step, state_after_operand, state_after_group, run_ended, run_from, start, step, term_step, tokens_query, with_member}
 pub use Rattle.mail_query.specs.BooleanTerms.{TermParts, cut_query, has_field, is_phrase, no_fields, parts_of, parts_query, with_field}
@@ -38,7 +38,7 @@ pub use Rattle.or_memory.specs.declared.or_memory.OrMemory.{OrMemory}
 pub use Rattle.std.proofs.Common.{Bool, Box, Err, Global, IfErr, IfOk, IfSome, IsUtf8, List, MatchOption, None, Ok, Option, Result, Some, String, [], add-one, ap, append-nil, append_assoc, arith, chars, cond, drop, drop-cons, eqb, false, get_or, inl, inr, length, length-append, lit<, ltb, ltb-true, map, max, not, option_map, refl, rules, string_bytes, subst, suc, sym, take, true, vec_len, zero, ℕ, ◌&&◌, ◌*◌, ◌++◌, ◌+◌, ◌-◌, ◌<◌, ◌||◌, ◌∙◌, ◌∷◌, ◌≡◌, ◌≢◌, ◌≤◌}
 pub use Rattle.std.proofs.Math.Bool.{or-false}
 pub use Rattle.std.proofs.Math.Seq.{drop-append-add, get_or-append_seam, take-append_seam}
-pub use Rattle.std.proofs.lemmas.Bool.{agree_below_at, and_from, and_parts, both_ways, cases_lt, cond_both, eqb-true, false_from_ne_true, le-leb, leb-false, leb-true, lt-leb, lt-ltb, not-true, or_from, or_left, or_parts, or_right}
+pub use Rattle.std.proofs.lemmas.Bool.{agree_below_at, and_from, and_parts, both_ways, cases_lt, cond_both, eqb-true, false_from_ne_true, le-leb, leb-true, lt-leb, lt-ltb, not-true, or_from, or_left, or_parts}
 pub use Rattle.std.proofs.lemmas.Bool.Decides.{eqb_tells, nat_tests}
 pub use Rattle.std.proofs.lemmas.Iterator.Consumers.{YieldsList-end, YieldsList-turn}
 pub use Rattle.std.proofs.lemmas.Iterator.Splits.{YieldsList-from_str_split}
@@ -47,7 +47,7 @@ pub use Rattle.std.proofs.lemmas.List.Elements.{All-cons, All-head, All-map, All
 pub use Rattle.std.proofs.lemmas.Option.{cond_some, none-some, option_and_then_some, slice_get-get_or}
 pub use Rattle.std.proofs.lemmas.Result.{MatchResult-at_err, MatchResult-at_ok, MatchResult-weaker}
 pub use Rattle.std.proofs.lemmas.Slice.Eq.{bytes_eq-Decides}
-pub use Rattle.std.proofs.lemmas.Str.{IsCharBoundary-after_ascii, IsCharBoundary-before_ascii, IsUtf8-drop, IsUtf8-string_bytes, IsUtf8-take, NoCharPasses-byte, encodes-chars}
+pub use Rattle.std.proofs.lemmas.Str.{IsCharBoundary-after_ascii, IsUtf8-drop, IsUtf8-string_bytes, IsUtf8-take, NoCharPasses-byte, encodes-chars}
 pub use Rattle.std.proofs.lemmas.Str.Pattern.{split_parts, strip_prefix_char, strip_suffix_char}
 pub use Rattle.std.specs.Char.{is_ascii_alphabetic, is_ascii_alphanumeric, is_ascii_digit}
 pub use Rattle.std.specs.List.{All, IsLastAndRest, join_with_byte, list_all, list_any, slice_split}

@@ -1,13 +1,10 @@
 -- The reader returns each query that the grammar gives, by its steps over the tokens of a tree.
 use Rattle.mail_query.proofs.Words.{◌≡◌, ℕ, suc, ◌+◌, ◌<◌, Bool, true, false, not, cond, ltb, ltb-true, List, [], ◌∷◌, ◌++◌, length, map, Option, None, Result, Ok, refl, sym, ap, ◌∙◌, append_assoc, append-nil, add-one, arith, ◌&&◌, is_ok, not-true, ◌>>=◌, fault_as, Field, Fields, QueryFault, QueryFaultKind, Lexicon, Query, Not, all_of, Token, Close, AndSign, OrSign, no_fields, has_field, parts_query, Link, Beside, ByAnd, ByOr, Item, NotOf, Group, Leaf, Chain, Last, Then, link_tokens, item_tokens, chain_tokens, into_first, query_or_any, term_prefix, plain_prefix, item_query, chain_queries, tree_query, is_fine_item, is_fine_chain, Reads, Level, Waiting, ForNot, ForClose, State, start, empty_level, with_member, level_with_prefix, run_ended, each_ended, level_query, is_negated, state_after_operand, query_at_end, cut_term_step, term_step, step, run_from, tokens_query}
 use Rattle.mail_query.specs.BooleanTerms.{boolean_term_query}
-use Rattle.mail_query.proofs.BooleanLaws.StackLemmas.{placed-settled, deeper-room}
+use Rattle.mail_query.proofs.BooleanLaws.StackLemmas.{deeper-room}
 
 pub and_left : (a b : Bool) → (a && b) ≡ true → a ≡ true
 and_left a b h = grind arith
-
-no_truth : (a : Bool) → (a && false) ≡ true → ⊥
-no_truth a h = grind arith
 
 pub and_right : (a b : Bool) → (a && b) ≡ true → b ≡ true
 and_right a b h = grind arith
@@ -34,9 +31,6 @@ pub with_first-one : (members : List Query) (q : Query) (qss : List (List Query)
     ≡ with_first members (into_first q qss)
 with_first-one members q qss = grind (arith, append_assoc)
 
-with_first-into : (q : Query) (qss : List (List Query)) → with_first [] (into_first q qss) ≡ into_first q qss
-with_first-into q qss = grind arith
-
 abbrev linked_level : Link → Level → Level
 linked_level Beside level = level
 linked_level ByAnd level = run_ended level
@@ -55,8 +49,8 @@ module _ (lexicon : Lexicon) where
 
   pub with_first-none : (c : Chain) → with_first [] (chain_queries lexicon c) ≡ chain_queries lexicon c
   with_first-none (Last i) = refl
-  with_first-none (Then i Beside c) = grind (arith, with_first-into)
-  with_first-none (Then i ByAnd c) = grind (arith, with_first-into)
+  with_first-none (Then i Beside c) = grind arith
+  with_first-none (Then i ByAnd c) = grind arith
   with_first-none (Then i ByOr c) = refl
 
   chain_eaches : (c : Chain) (level : Level) → level_eaches (chain_level c level)
@@ -87,14 +81,14 @@ module _ (lexicon : Lexicon) where
       (query_or_any (parts_query lexicon prefix rest)))
   unfolding seen_at
   cut_term_fine s prefix rest h =
-      grind (arith, no_seen_prefix, and_left, and_right)
+      grind (arith, no_seen_prefix, and_left)
 
   pub term_fine : (s : State) (t : List ℕ)
       → (not (has_field (seen_at s.waiting s.level) (term_prefix t)) && is_ok (boolean_term_query lexicon t)) ≡ true
       → term_step lexicon s t ≡ Ok (state_after_operand s.waiting
       (level_with_prefix (is_negated s.waiting) (term_prefix t) s.level)
       (query_or_any (boolean_term_query lexicon t)))
-  term_fine s t h = grind (arith, no_truth, cut_term_fine)
+  term_fine s t h = grind (arith, cut_term_fine)
 
   then_steps : (r : Result State QueryFaultKind) (next : State) (ts : List Token) → r ≡ Ok next
       → (r >>= (λ s. steps s ts)) ≡ steps next ts
@@ -113,7 +107,7 @@ module _ (lexicon : Lexicon) where
       ≡ steps (state waiting (with_item i level) false) ts
   unfolding state
   settled i waiting level ts e =
-      grind (arith, steps, placed-settled)
+      grind arith
 
   chain_spelled : (i : Item) (l : Link) (c : Chain) (ts : List Token) → chain_tokens (Then i l c) ++ ts
       ≡ item_tokens i ++ (link_tokens l ++ (chain_tokens c ++ ts))

@@ -15,7 +15,7 @@ if_flat b r s h h2 = grind arith
 module _ (lexicon : Lexicon) where
   term_flat : (t : List ℕ) → IsFlat (boolean_term_query lexicon t)
   unfolding IsFlat
-  term_flat t = grind (arith, if_flat, IsFlat)
+  term_flat t = grind (arith, if_flat)
 
 -- ---- inside this many open `(` and `not`
 

@@ -1,5 +1,5 @@
 -- The reader's fault is the first fault, because the tokens before a place determine the state there.
-use Rattle.mail_query.proofs.Words.{◌≡◌, ℕ, zero, suc, ◌+◌, Bool, true, false, not, cond, eqb, List, [], ◌∷◌, ◌++◌, length, Option, None, Some, Result, Ok, Err, refl, sym, ap, subst, ◌∙◌, append-nil, arith, is_none, ◌>>=◌, fault_as, Field, Fields, QueryFault, QueryFaultKind, NeedsOperator, MissingTerm, Lexicon, Query, Token, Open, Close, AndSign, OrSign, NotSign, no_fields, with_field, parts_query, Link, Beside, ByAnd, ByOr, Item, NotOf, Group, Leaf, Chain, Last, Then, link_tokens, item_tokens, chain_tokens, plain_prefix, seen_after, Reads, is_wanted, open_count, waiting_count, is_not, fields_before, needs_operator, err_of, deep_fault, operator_fault, close_fault, end_fault, first_some, term_fault, token_fault, first_fault_from, first_fault, Level, Waiting, State, is_negated, has_open, deeper, state_after_close, query_at_end, cut_term_step, term_step, step, run_from, tokens_query}
+use Rattle.mail_query.proofs.Words.{◌≡◌, ℕ, zero, suc, ◌+◌, Bool, true, false, not, cond, eqb, List, [], ◌∷◌, ◌++◌, length, Option, None, Some, Result, Ok, Err, refl, sym, ap, subst, ◌∙◌, append-nil, arith, is_none, ◌>>=◌, fault_as, Field, Fields, QueryFault, QueryFaultKind, NeedsOperator, MissingTerm, Lexicon, Query, Token, Open, Close, AndSign, OrSign, NotSign, no_fields, with_field, parts_query, Link, Beside, ByAnd, ByOr, Item, NotOf, Group, Leaf, Chain, Last, Then, link_tokens, item_tokens, chain_tokens, plain_prefix, seen_after, Reads, is_wanted, open_count, waiting_count, is_not, fields_before, needs_operator, err_of, deep_fault, operator_fault, close_fault, first_some, term_fault, token_fault, first_fault_from, first_fault, Level, Waiting, State, is_negated, has_open, deeper, state_after_close, cut_term_step, term_step, step, run_from, tokens_query}
 use Rattle.mail_query.proofs.BooleanLaws.BooleanComplete.{reading_answered}
 use Rattle.mail_query.proofs.BooleanLaws.BooleanTrees.{Front, Nothing, After, Part, Wait, WaitNot, WaitClose, nothing_read, front_tokens, last_tokens, part_tokens, spelled, seen_front, last_prefix, seen_of, wanted_of, waits_not, wanted_after, front_wanted, is_closed, level_of, waiting_of, state_of, length-waiting_of, negated-waiting_of, Fine, reach, answer_read}
 
@@ -97,14 +97,11 @@ record Stands (back after : List Token) (wanted : Bool) (seen : Fields) : Type 0
   opens : (k : ℕ) → open_count k after ≡ open_count k back
   waits : (f : Bool) (k : ℕ) → waiting_count f k after ≡ waiting_count false k back
 
-plain_field : (b : Bool) (o : Option Field) → b ≡ false → cond b None o ≡ o
-plain_field b o e = ap (λ (x : Bool). cond x None o) e
-
 item_stands : (i : Item) (back before : List Token) (w : Bool) (seen : Fields) → Stands back before w seen
     → Stands back (back_after (item_tokens i) before) false (with_field (plain_prefix i) seen)
 item_stands i back before w seen s =
     let l = item_leaves i before in
-    grind (arith, plain_field)
+    grind arith
 
 link_stands : (i : Item) (l : Link) (back before : List Token) (seen : Fields)
     → Stands back before false (with_field (plain_prefix i) seen)
@@ -117,7 +114,7 @@ front_stands Nothing back o = grind arith
 front_stands (After f i l) back o =
     let e : back_after (front_tokens f ++ (item_tokens i ++ link_tokens l)) back
     ≡ linked_back l (back_after (item_tokens i) (back_after (front_tokens f) back)) =
-    grind (arith, back_after-append, front_tokens, link_after) in
+    grind (arith, back_after-append) in
     rw e (link_stands i l back (back_after (item_tokens i) (back_after (front_tokens f) back)) (seen_front f)
     (item_stands i back (back_after (front_tokens f) back) (front_wanted f) (seen_front f) (front_stands f back o)))
 
@@ -129,7 +126,7 @@ part_stands p back c o = go p.last c
         → Stands back (back_after (front_tokens p.front ++ last_tokens last) back) (is_none last)
         (with_field (last_prefix last) (seen_front p.front))
     go None c =
-        grind (arith, front_stands, seen_front, append-nil, front_tokens)
+        grind (arith, front_stands, append-nil)
     go (Some i) c =
         rw (back_after-append (front_tokens p.front) (item_tokens i) back)
         (item_stands i back (back_after (front_tokens p.front) back) (front_wanted p.front) (seen_front p.front)
@@ -168,11 +165,11 @@ module _ (lexicon : Lexicon) where
       let s = part_stands p [] fine.closed opens_all in
       grind arith
   shows (WaitNot ∷ ws) p fine =
-      grind (arith, WaitNot, back_after-append, spelled, shows ws p fine.0)
+      grind (arith, back_after-append, shows ws p fine.0)
   shows (WaitClose outer ∷ ws) p fine =
       let before = shows ws outer fine.0 in
       let s = part_stands p (Open ∷ back_of ws outer) fine.2.closed (opens_group (back_of ws outer)) in
-      grind (arith, WaitClose, back_after-append, spelled, part_tokens)
+      grind (arith, back_after-append)
 
   open-has_open : (ws : List Wait) → eqb (open_of ws) 0 ≡ not (has_open (waiting_of lexicon ws))
   open-has_open [] = refl
@@ -187,15 +184,11 @@ module _ (lexicon : Lexicon) where
 
   same_operator : (ws : List Wait) (p : Part) (back : List Token) (next : State) → Shows ws p back
       → operator_fault back ≡ fault_of {T = State} (cond (wanted_of ws p) (Err MissingTerm) (Ok next))
-  same_operator ws p back next s = grind (arith, guarded, wanted_of)
+  same_operator ws p back next s = grind arith
 
   same_close : (ws : List Wait) (p : Part) (back : List Token) → Shows ws p back → close_fault back
       ≡ fault_of (state_after_close (state_of lexicon ws p))
   same_close ws p back s = grind (arith, open-has_open, waiting_of, waits_not, level_of)
-
-  same_end : (ws : List Wait) (p : Part) (back : List Token) → Shows ws p back → end_fault back
-      ≡ fault_of (query_at_end (state_of lexicon ws p))
-  same_end ws p back s = grind (arith, open-has_open, wanted_of, waiting_of, level_of)
 
   same_parts : (s : State) (back : List Token) (prefix : Option Field) (rest : List ℕ) → is_not back
       ≡ is_negated s.waiting → fields_before zero back ≡ s.level.seen
@@ -228,7 +221,7 @@ module _ (lexicon : Lexicon) where
 
   same_first : (n : ℕ) (ws : List Wait) (p : Part) (ts : List Token) → Fine lexicon ws p
       → first_fault_from lexicon n (back_of ws p) ts ≡ fault_of (run_from lexicon n (state_of lexicon ws p) ts)
-  same_first n ws p [] fine = grind (arith, same_end, shows, state_of)
+  same_first n ws p [] fine = grind (arith, shows)
   same_first n ws p (t ∷ ts) fine =
       ap (λ (o : Option QueryFaultKind). first_some (at_number n) o
       (first_fault_from lexicon (n + 1) (t ∷ back_of ws p) ts)) (same_fault ws p (back_of ws p) t (shows ws p fine))
@@ -242,7 +235,7 @@ module _ (lexicon : Lexicon) where
       go (Err kind) e h = refl
       go (Ok next) e h =
           let reached = reach lexicon ws p t next fine e in
-          grind (arith, back_after-append, spelled)
+          grind (arith, back_after-append)
 
   -- the reader's fault is the first fault
   first_fault_is : (ts : List Token) → first_fault lexicon ts ≡ fault_of (tokens_query lexicon ts)

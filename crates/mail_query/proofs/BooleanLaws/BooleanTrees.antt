@@ -1,5 +1,5 @@
 -- The grammar gives each query that the reader returns, because after each token its state is that of a partial tree.
-use Rattle.mail_query.proofs.Words.{◌≡◌, ℕ, suc, ◌+◌, ◌<◌, Bool, true, false, not, cond, List, [], ◌∷◌, ◌++◌, length, map, Option, None, Some, Result, Ok, Err, refl, sym, ap, ◌∙◌, append_assoc, append-nil, arith, add-one, ◌&&◌, ◌||◌, is_ok, is_none, option_and_then, and_from, or_parts, or_right, leb-false, lt-ltb, ◌>>=◌, fault_as, Field, Fields, QueryFault, QueryFaultKind, Phrase, NeedsOperator, MissingTerm, BadParenthesis, Lexicon, Query, all_of, either_of, Token, Open, Close, AndSign, OrSign, NotSign, Term, TermParts, parts_of, no_fields, has_field, with_field, is_phrase, cut_query, Link, Beside, ByAnd, ByOr, Item, NotOf, Group, Leaf, Chain, Last, Then, link_tokens, item_tokens, chain_tokens, term_prefix, plain_prefix, seen_after, item_query, chain_queries, tree_query, is_fine_item, is_fine_chain, Reads, Level, Waiting, ForNot, ForClose, State, start, empty_level, with_member, level_with_prefix, run_ended, each_ended, level_query, is_negated, has_open, state_after_operand, deeper, state_after_and, state_after_or, state_after_group, state_after_close, query_at_end, parts_step, term_step, step, run_from, tokens_query}
+use Rattle.mail_query.proofs.Words.{◌≡◌, ℕ, suc, ◌+◌, ◌<◌, Bool, true, false, not, cond, List, [], ◌∷◌, ◌++◌, length, map, Option, None, Some, Result, Ok, Err, refl, sym, ap, ◌∙◌, append_assoc, append-nil, arith, add-one, ◌&&◌, ◌||◌, is_ok, is_none, option_and_then, and_from, or_parts, lt-ltb, ◌>>=◌, fault_as, Field, Fields, QueryFault, QueryFaultKind, Phrase, NeedsOperator, MissingTerm, Lexicon, Query, all_of, either_of, Token, Open, Close, AndSign, OrSign, NotSign, Term, TermParts, parts_of, no_fields, has_field, with_field, is_phrase, cut_query, Link, Beside, ByAnd, ByOr, Item, NotOf, Group, Leaf, Chain, Last, Then, link_tokens, item_tokens, chain_tokens, term_prefix, plain_prefix, seen_after, item_query, chain_queries, tree_query, is_fine_item, is_fine_chain, Reads, Level, Waiting, ForNot, ForClose, State, start, empty_level, with_member, level_with_prefix, run_ended, each_ended, level_query, is_negated, state_after_operand, deeper, state_after_and, state_after_or, state_after_group, state_after_close, query_at_end, parts_step, term_step, step, run_from, tokens_query}
 use Rattle.mail_query.specs.BooleanTerms.{boolean_term_query}
 use Rattle.mail_query.proofs.BooleanLaws.BooleanComplete.{noted-none, state, seen_at, term_fine, with_first, with_first-one, with_first-none}
 
@@ -117,9 +117,6 @@ abbrev pub is_closed : Front → Option Item → Bool
 is_closed f None = front_wanted f
 is_closed f (Some i) = true
 
-operator_wanted : (l : Link) (t : Token) → link_tokens l ≡ t ∷ [] → wanted_after l ≡ true
-operator_wanted l t h = grind arith
-
 -- tokens after the innermost part are after the whole, if no `not` is directly before them
 spelled-more : (ws : List Wait) (p next : Part) (ts : List Token) → waits_not ws ≡ false → part_tokens next
     ≡ part_tokens p ++ ts → spelled ws next ≡ spelled ws p ++ ts
@@ -135,9 +132,6 @@ spelled-put (WaitClose outer ∷ ws) p i =
 chain_tokens-onto : (f : Front) (c : Chain) → chain_tokens (onto f c) ≡ front_tokens f ++ chain_tokens c
 chain_tokens-onto Nothing c = refl
 chain_tokens-onto (After f i l) c = grind (arith, append_assoc, chain_tokens-onto f (Then i l c))
-
-and_assoc : (a b c : Bool) → ((a && b) && c) ≡ (a && (b && c))
-and_assoc a b c = grind arith
 
 module _ (lexicon : Lexicon) where
   -- ---- the state of the reader
@@ -191,7 +185,7 @@ module _ (lexicon : Lexicon) where
       (level_of p)) (item_query lexicon i)
       ≡ state_of (put_waits ws) (put_part ws p i)
   placed_is [] p i = grind (arith, level_of-put)
-  placed_is (WaitNot ∷ ws) p i = grind (arith, noted-none, placed_is ws p (NotOf i))
+  placed_is (WaitNot ∷ ws) p i = grind (arith, placed_is ws p (NotOf i))
   placed_is (WaitClose outer ∷ ws) p i = grind (arith, level_of-put)
 
   eaches-onto : (f : Front) (c : Chain) → map all_of (chain_queries lexicon (onto f c))
@@ -228,23 +222,19 @@ module _ (lexicon : Lexicon) where
   fine-onto : (f : Front) (c : Chain) (n : ℕ) → is_fine_chain lexicon (onto f c) n no_fields
       ≡ (is_fine_front f n && is_fine_chain lexicon c n (seen_front f))
   fine-onto Nothing c n = refl
-  fine-onto (After f i l) c n = grind (arith, and_assoc, fine-onto f (Then i l c) n)
+  fine-onto (After f i l) c n = grind (arith, fine-onto f (Then i l c) n)
 
   fine_put : (p : Part) (i : Item) (n : ℕ) → FinePart p n → is_fine_item lexicon i n (seen_of p) ≡ true
       → FinePart (put p i) n
-  fine_put p i n h k = grind (arith, and_from)
-
-  negate_fine : (i : Item) (n : ℕ) (seen : Fields) → n < 30 → is_fine_item lexicon i (suc n) no_fields ≡ true
-      → is_fine_item lexicon (NotOf i) n seen ≡ true
-  negate_fine i n seen room h = grind (arith, lt-ltb, add-one)
+  fine_put p i n h k = grind arith
 
   put_fine : (ws : List Wait) (p : Part) (i : Item) → Fine ws p
       → is_fine_item lexicon i (length ws) (cond (waits_not ws) no_fields (seen_of p)) ≡ true
       → Fine (put_waits ws) (put_part ws p i)
   unfolding Fine
   put_fine [] p i h k = fine_put p i 0 h k
-  put_fine (WaitNot ∷ ws) p i h k = grind (arith, negate_fine, put_fine ws p (NotOf i) h.0)
-  put_fine (WaitClose outer ∷ ws) p i h k = grind (arith, fine_put)
+  put_fine (WaitNot ∷ ws) p i h k = grind (arith, put_fine ws p (NotOf i) h.0)
+  put_fine (WaitClose outer ∷ ws) p i h k = grind arith
 
   part_fine : (ws : List Wait) (p next : Part) → waits_not ws ≡ false → ((n : ℕ) → FinePart p n → FinePart next n)
       → Fine ws p → Fine ws next
@@ -297,7 +287,7 @@ module _ (lexicon : Lexicon) where
       (item_query lexicon (Leaf t)) =
       grind (arith, term_fine) in
       let leaf : is_fine_item lexicon (Leaf t) (length ws) (cond (waits_not ws) no_fields (seen_of p)) ≡ true =
-      grind (arith, negated-waiting_of) in
+      grind arith in
       record {
         waits = put_waits ws;
         part = put_part ws p (Leaf t);
@@ -311,7 +301,7 @@ module _ (lexicon : Lexicon) where
       → (length ws < 30) × (s ≡ state (what ∷ waiting_of ws) level true)
   unfolding state
   reach_deeper ws s what level e =
-      grind (arith, unguarded, leb-false, length-waiting_of)
+      grind (arith, length-waiting_of)
 
   reach_not : (ws : List Wait) (p : Part) (s : State) → Fine ws p → deeper (waiting_of ws) ForNot (level_of p) ≡ Ok s
       → Reaches ws p NotSign s
@@ -345,9 +335,9 @@ module _ (lexicon : Lexicon) where
       record {
         waits = ws;
         part = next;
-        shown = grind (arith, state, or_right);
-        tokens = grind (arith, spelled-more, append-nil, append_assoc);
-        fine = grind (arith, part_fine, and_from, operator_wanted);
+        shown = grind arith;
+        tokens = grind (arith, append_assoc);
+        fine = grind (arith, part_fine);
       }
 
   reach_and : (ws : List Wait) (p : Part) (s : State) → Fine ws p → state_after_and (state_of ws p) ≡ Ok s
@@ -360,7 +350,7 @@ module _ (lexicon : Lexicon) where
       → Reaches ws r AndSign s) passed.0
       (λ no_not f i h same. reach_operator ws f i ByAnd AndSign s no_not h refl
       (cc (same, append-nil (members_front f ++ item_query lexicon i ∷ []))))
-      fine (let same = passed.1 in cc)
+      fine (cc)
 
   reach_or : (ws : List Wait) (p : Part) (s : State) → Fine ws p → state_after_or (state_of ws p) ≡ Ok s
       → Reaches ws p OrSign s
@@ -371,7 +361,7 @@ module _ (lexicon : Lexicon) where
       where_ended ws p (λ r. Fine ws r → state (waiting_of ws) (each_ended (level_of r)) true ≡ s
       → Reaches ws r OrSign s) passed.0
       (λ no_not f i h same. reach_operator ws f i ByOr OrSign s no_not h refl (sym same)) fine
-      (let same = passed.1 in cc)
+      (cc)
 
   -- a group is closed
   group_fine : (f : Front) (i : Item) (n : ℕ) (seen : Fields) → n < 30 → FinePart (ended_by f i) (suc n)
@@ -382,22 +372,14 @@ module _ (lexicon : Lexicon) where
       → Reaches ws p Close s
   unfolding Fine
   reach_close ws p s fine e =
-      let passed = closed_is (wanted_of ws p) (has_open (waiting_of ws))
-      (state_after_group (waiting_of ws) (level_of p)) e in
-      grind (arith, where_ended, go)
+      grind (arith, go)
     where
-      closed_is : (b o : Bool) (r : Result State QueryFaultKind)
-          → cond b (cond o (Err MissingTerm) (Err BadParenthesis)) r ≡ Ok s → (b ≡ false) × (r ≡ Ok s)
-      closed_is b o r h = grind arith
-
       go : (vs : List Wait) (f : Front) (i : Item) → Fine vs (ended_by f i)
           → state_after_group (waiting_of vs) (level_of (ended_by f i)) ≡ Ok s → Reaches vs (ended_by f i) Close s
       go [] f i h e = absurd cc
       go (WaitNot ∷ vs) f i h e = absurd cc
       go (WaitClose outer ∷ vs) f i h e =
           let c : Chain = onto f (Last i) in
-          let popped_so : state_after_operand (waiting_of vs) (level_of outer) (level_query (level_of (ended_by f i)))
-          ≡ s = cc in
           record {
             waits = put_waits vs;
             part = put_part vs outer (Group c);
@@ -426,7 +408,7 @@ module _ (lexicon : Lexicon) where
       → Reads lexicon (spelled ws p) q
   unfolding Fine
   end_reads ws p q fine e =
-      grind (arith, unguarded, where_ended, chain_tokens-onto, fine-onto, and_from, level_asks)
+      grind (arith, chain_tokens-onto, fine-onto, level_asks)
 
   run_reads : (n : ℕ) (ws : List Wait) (p : Part) (ts : List Token) (q : Query) → Fine ws p
       → run_from lexicon n (state_of ws p) ts ≡ Ok q → Reads lexicon (spelled ws p ++ ts) q

@@ -1,5 +1,5 @@
 -- Laws of what is open, the innermost first.
-use Rattle.mail_query.proofs.Words.{◌≡◌, ℕ, ◌+◌, ◌-◌, ◌<◌, ◌≤◌, Bool, true, false, ◌||◌, Ok, Err, List, [], ◌∷◌, ◌++◌, length, take, drop, get_or, drop-cons, refl, ◌∙◌, arith, IsLastAndRest, drop_all, or-false, or_right, le-leb, lt-leb, TooDeep, BadParenthesis, Query, Not, shown_level, shown_waiting, nearest_first, shown_stack, Level, Waiting, ForNot, ForClose, with_member, is_negated, has_open, state_after_operand, deeper, state_after_group, level_query}
+use Rattle.mail_query.proofs.Words.{◌≡◌, ℕ, ◌+◌, ◌-◌, ◌<◌, ◌≤◌, Bool, true, false, ◌||◌, Ok, Err, List, [], ◌∷◌, ◌++◌, length, take, drop, get_or, drop-cons, refl, ◌∙◌, arith, IsLastAndRest, drop_all, or-false, le-leb, lt-leb, TooDeep, BadParenthesis, Query, Not, shown_level, shown_waiting, nearest_first, shown_stack, Level, Waiting, ForNot, ForClose, is_negated, has_open, state_after_operand, deeper, state_after_group, level_query}
 use Rattle.mail_query.specs.declared.boolean.reader.Level.{Level as CodeLevel}
 use Rattle.mail_query.specs.declared.boolean.reader.Waiting.{Waiting as CodeWaiting}
 use Rattle.mail_query.specs.declared.boolean.reader.Waiting.TheVariants as code_waiting
@@ -31,12 +31,6 @@ pub open_last : (ws front : List CodeWaiting) (w : CodeWaiting) (level : Level) 
     → shown_waiting w ≡ ForClose level → is_negated (shown_stack ws) ≡ false
 open_last ws front w level h e = grind (arith, shown_stack-push)
 
--- an operand without a `not` directly before it is a member as it is
-pub placed-settled : (ws : List Waiting) (level : Level) (q : Query) → is_negated ws ≡ false
-    → state_after_operand ws level q
-    ≡ record { waiting = ws; level = with_member level q; wanted = false }
-placed-settled ws level q h = grind arith
-
 -- ---- whether a `(` is open
 
 abbrev pub has_open_code : List CodeWaiting → Bool
@@ -49,7 +43,7 @@ has_open-nearest_first : (ws : List CodeWaiting) (after : List Waiting) → has_
 has_open-nearest_first [] after = refl
 has_open-nearest_first (code_waiting.ForNot ∷ ws) after = has_open-nearest_first ws (ForNot ∷ after)
 has_open-nearest_first (code_waiting.ForClose level ∷ ws) after =
-    grind (arith, or_right, has_open-nearest_first ws)
+    grind (arith, has_open-nearest_first ws)
 
 pub has_open-shown_stack : (ws : List CodeWaiting) → has_open (shown_stack ws) ≡ has_open_code ws
 has_open-shown_stack ws = has_open-nearest_first ws [] ∙ or-false (has_open_code ws)

@@ -1,7 +1,6 @@
 -- Taking one token after another from the front of a text gives its tokens.
 use Rattle.std.proofs.Common.{◌≡◌, ℕ, zero, suc, ◌<◌, ◌≤◌, Bool, true, false, not, ◌||◌, cond, List, [], ◌∷◌, length, take, drop, get_or, None, Some, refl, ◌∙◌, arith, add-one}
 use Rattle.std.proofs.lemmas.Bool.Decides.{nat_tests}
-use Rattle.std.proofs.lemmas.Option.{cond_some}
 use Rattle.std.specs.List.{prefix_len}
 use Rattle.std.specs.Str.{IsUtf8, IsCharBoundary}
 use Rattle.std.proofs.lemmas.Str.{IsCharBoundary-start, IsCharBoundary-after_ascii}
@@ -75,12 +74,9 @@ tokens-run text some nonempty = grind (arith, cut-run)
 pub run_end : (text : List ℕ) → IsCharBoundary text (run_length text)
 run_end text = go (run_place text)
   where
-    ascii : (b : ℕ) → ends_run b ≡ true → b < 128
-    ascii b e = grind (arith, nat_tests)
-
     run_place : (t : List ℕ) → (run_length t ≤ length t) × (run_length t < length t → get_or t (run_length t) 0 < 128)
     run_place [] = grind arith
-    run_place (b ∷ bs) = grind (arith, ascii, run_place bs)
+    run_place (b ∷ bs) = grind (arith, run_place bs)
 
     go : (run_length text ≤ length text) × (run_length text < length text → get_or text (run_length text) 0 < 128)
         → IsCharBoundary text (run_length text)
@@ -96,12 +92,12 @@ begins_run text h h2 h3 h4 = grind arith
 pub tokens-open : (text rest : List ℕ) → without_first 0x28 text ≡ Some rest → query_tokens text
     ≡ Open ∷ query_tokens rest
 unfolding query_tokens
-tokens-open text rest h = grind (arith, cond_some, nat_tests)
+tokens-open text rest h = grind arith
 
 pub tokens-close : (text rest : List ℕ) → without_first 0x29 text ≡ Some rest → query_tokens text
     ≡ Close ∷ query_tokens rest
 unfolding query_tokens
-tokens-close text rest h = grind (arith, cond_some, nat_tests)
+tokens-close text rest h = grind (arith, nat_tests)
 
 pub tokens-nothing : (text : List ℕ) → length text ≡ 0 → query_tokens text ≡ []
 unfolding query_tokens

@@ -1,5 +1,5 @@
 -- The test for approximate matching is right after each byte of a text, so it is right at the end.
-use Rattle.mail_query.proofs.Words.{◌≡◌, ℕ, ◌≤◌, Bool, true, false, ◌||◌, ◌&&◌, eqb, List, [], ◌∷◌, ◌++◌, length, refl, arith, list_all, is_ascii_digit, eqb-true, and_parts, and_from, or_left, or_right, is_nonempty, is_approximate, IsApproximate, Digits}
+use Rattle.mail_query.proofs.Words.{◌≡◌, ℕ, ◌≤◌, Bool, true, false, ◌||◌, ◌&&◌, eqb, List, [], ◌∷◌, ◌++◌, length, refl, arith, list_all, is_ascii_digit, eqb-true, and_parts, is_nonempty, is_approximate, IsApproximate, Digits}
 
 -- What the test says of the whole text, given the rest. `marked`: only digits came since the last `=`. `counted`: at
 -- least one of them did.
@@ -8,16 +8,10 @@ approximate_after marked counted rest =
     ((counted && list_all is_ascii_digit rest) || (marked && (is_nonempty rest && list_all is_ascii_digit rest))) ||
     is_approximate rest
 
-nonempty : (b : ℕ) (bs : List ℕ) → is_nonempty (b ∷ bs) ≡ true
-nonempty b bs = grind arith
-
 -- ---- a text that passes has an `=` and digits after it
 
 filled : (bs : List ℕ) → is_nonempty bs ≡ true → 1 ≤ length bs
 filled bs h = grind arith
-
-nonempty_of : (bs : List ℕ) → 1 ≤ length bs → is_nonempty bs ≡ true
-nonempty_of bs h = grind (arith, nonempty)
 
 marked_after : (b : ℕ) (bs : List ℕ) → IsApproximate bs → IsApproximate (b ∷ bs)
 marked_after b bs (Digits front digits some only) = Digits (b ∷ front) digits some only
@@ -37,8 +31,8 @@ approximate_is (b ∷ bs) e = go (eqb b 0x3D && (is_nonempty bs && list_all is_a
 
 marked : (front digits : List ℕ) → 1 ≤ length digits → list_all is_ascii_digit digits ≡ true
     → is_approximate (front ++ 0x3D ∷ digits) ≡ true
-marked [] digits some only = grind (arith, or_left, and_from, nonempty_of)
-marked (b ∷ front) digits some only = grind (arith, or_right, marked front digits some only)
+marked [] digits some only = grind arith
+marked (b ∷ front) digits some only = grind (arith, marked front digits some only)
 
 pub is_marked : (text : List ℕ) → IsApproximate text → is_approximate text ≡ true
 is_marked text (Digits front digits some only) = marked front digits some only

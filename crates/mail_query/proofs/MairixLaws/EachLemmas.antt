@@ -1,5 +1,5 @@
 -- Reading texts, or patterns, one after another: the queries so far and those of the rest make the whole.
-use Rattle.mail_query.proofs.Words.{◌≡◌, ℕ, ◌+◌, ◌<◌, List, [], ◌∷◌, ◌++◌, length, get_or, drop, Option, Result, Ok, Err, IfSome, refl, sym, ap, ◌∙◌, arith, add-one, drop-cons, append-nil, map, String, Global, string_bytes, IsUtf8, drop_all, get_or-map, length-map, ◌>>=◌, with_front, fault_as, with_front-append, with_front-nil, if_some_map, QueryFault, QueryFaultKind, Query, all_of, Lexicon, each_read, pattern_query, patterns_from, patterns_query, All, All-map, IsUtf8-string_bytes, OrMemory, refusal, fault_with_number}
+use Rattle.mail_query.proofs.Words.{◌≡◌, ℕ, ◌+◌, ◌<◌, List, [], ◌∷◌, ◌++◌, length, get_or, drop, Option, Result, Ok, Err, IfSome, refl, sym, ap, ◌∙◌, arith, add-one, drop-cons, append-nil, map, String, Global, string_bytes, IsUtf8, drop_all, get_or-map, length-map, ◌>>=◌, with_front, fault_as, with_front-append, if_some_map, QueryFault, QueryFaultKind, Query, all_of, Lexicon, each_read, pattern_query, patterns_from, patterns_query, All, All-map, IsUtf8-string_bytes, OrMemory, refusal, fault_with_number}
 
 -- the texts from a place on are the text there and those after it
 drop-next : (texts : List (List ℕ)) (n : ℕ) (text : List ℕ) → (n < length texts) × (text ≡ get_or texts n text)
@@ -19,7 +19,7 @@ module _ {E : Type 0} (fault : ℕ → QueryFaultKind → E) (read : List ℕ �
       pub whole : with_front qs (numbered_read (n + 1) (drop n texts)) ≡ numbered_read 1 texts
 
     pub reads_none : (qs : List Query) → qs ≡ [] → HasRead qs 0
-    reads_none qs e = grind (arith, with_front-nil)
+    reads_none qs e = grind arith
 
     -- the whole, given the result for the text at a place
     abbrev then_rest : List Query → ℕ → Result Query QueryFaultKind → Result (List Query) E

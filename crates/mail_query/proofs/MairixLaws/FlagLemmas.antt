@@ -1,5 +1,5 @@
 -- Flags are read as their grammar says, by induction over the letters.
-use Rattle.mail_query.proofs.Words.{◌≡◌, ℕ, ◌+◌, ◌<◌, Bool, true, false, eqb, List, [], ◌∷◌, ◌++◌, length, get_or, drop, Option, None, Some, Ok, Err, option_map, refl, sym, ◌∙◌, append_assoc, append-nil, arith, add-one, drop-cons, inl, inr, not, cond, subst, option_and_then, ◌⊎◌, drop_all, Flag, BadFlag, Query, HasFlag, all_of, flag_of, with_flag, flags_after, flags_of_text, some_of, flags_query, eqb-true, false_from_ne_true, none-some, option_and_then_some, AreFlags, NoFlag, IsFlags, EachFlag}
+use Rattle.mail_query.proofs.Words.{◌≡◌, ℕ, ◌+◌, ◌<◌, Bool, true, false, eqb, List, [], ◌∷◌, ◌++◌, length, get_or, drop, Option, None, Some, Ok, Err, option_map, refl, sym, ◌∙◌, append_assoc, append-nil, arith, drop-cons, inl, inr, not, cond, subst, option_and_then, ◌⊎◌, drop_all, Flag, BadFlag, Query, HasFlag, all_of, flag_of, with_flag, flags_after, flags_of_text, some_of, flags_query, option_and_then_some, AreFlags, NoFlag, IsFlags, EachFlag}
 use Rattle.mail_query.proofs.MairixLaws.SignLemmas.{map_some}
 use Rattle.mail_query.specs.FlagGrammar.{Wanted, Unwanted}
 
@@ -12,7 +12,7 @@ pub record HasRead (text : List ℕ) (qs : List Query) (wanted : Bool) (i : ℕ)
   pub whole : with_flags qs (flags_after wanted (drop i text)) ≡ flags_after true text
 
 next : (text : List ℕ) (i : ℕ) → i < length text → drop i text ≡ get_or text i 0 ∷ drop (i + 1) text
-next text i h = grind (arith, drop-cons, add-one)
+next text i h = grind (arith, drop-cons)
 
 pub reads_none : (text : List ℕ) (qs : List Query) → qs ≡ [] → HasRead text qs true 0
 reads_none text qs e = grind arith
@@ -86,7 +86,7 @@ dash_refused text qs wanted i h e below is = refused text (sym (at_dash text qs 
 
 -- a letter of a flag isn't a dash
 no_dash : (letter : ℕ) (flag : Flag) → flag_of letter ≡ Some flag → eqb letter 0x2D ≡ false
-no_dash letter flag e = grind (arith, false_from_ne_true, none-some, eqb-true)
+no_dash letter flag e = grind arith
 
 are_read : (text : List ℕ) (qs : List Query) → AreFlags text qs → flags_after true text ≡ Some qs
 are_read text qs NoFlag = refl
@@ -95,7 +95,7 @@ are_read text qs (Unwanted letter flag rest more e f) = rw (no_dash letter flag 
 
 pub flags_read : (text : List ℕ) (q : Query) → IsFlags text q → flags_of_text text ≡ Some q
 unfolding flags_of_text
-flags_read text q (EachFlag t first qs f) = grind (arith, some_of, are_read)
+flags_read text q (EachFlag t first qs f) = grind (arith, are_read)
 
 -- the letter after a dash, and what follows it
 record After (text : List ℕ) (qs : List Query) : Type 0 where
@@ -132,7 +132,7 @@ read_are [] = record {
 read_are (b ∷ bs) = record {
   wanted = grind (arith, first, read_are bs);
   unwanted =
-      grind (arith, after, read_are bs);
+      grind (arith, read_are bs);
 }
   where
     first : (qs : List Query) (t : Bool) → eqb b 0x2D ≡ t
@@ -140,7 +140,7 @@ read_are (b ∷ bs) = record {
         → AreFlags (b ∷ bs) qs
     first qs true h e r =
         let d = r.unwanted qs e in
-        let text : 0x2D ∷ d.letter ∷ d.rest ≡ b ∷ bs = grind (arith, eqb-true) in
+        let text : 0x2D ∷ d.letter ∷ d.rest ≡ b ∷ bs = grind arith in
         rw text at (subst (AreFlags (0x2D ∷ d.letter ∷ d.rest)) (sym d.queries)
         (Unwanted d.letter d.flag d.rest d.more d.named d.flags))
     first qs false h e r =

@@ -4,7 +4,7 @@ use Rattle.std.proofs.lemmas.List.Splits.{length-slice_split, join_with_byte-sli
 use Rattle.mail_query.specs.Mairix.{word_query}
 use Rattle.mail_query.specs.MairixGrammar as grammar
 use Rattle.mail_query.specs.MairixFaults.{OfId, OfDate, OfSize, OfFlags}
-use Rattle.mail_query.proofs.PieceLemmas.{without_first-same, Free}
+use Rattle.mail_query.proofs.PieceLemmas.{Free}
 use Rattle.mail_query.proofs.MairixLaws.ApproximateLemmas.{approximate_is, is_marked}
 use Rattle.mail_query.proofs.MairixLaws.EachLemmas.{at_number, unnumbered, numbered_read, each_numbered, patterns_numbered}
 use Rattle.mail_query.proofs.MairixLaws.KindLemmas.{letters_read, read_letters}
@@ -152,9 +152,8 @@ module _ (forms : Forms) where
         (λ unmarked. ok_or_answers (found_query forms text) BadWord (IsAtom forms text) (IsAtomFault forms text)
         (found_asks text)
         (λ none.
-        let refused : atom_query forms text ≡ Err BadWord = rw (unmarked, none) refl in
         HasNoForm text (λ a. both_ways (is_approximate text) unmarked (is_marked text a))
-        (λ q a. let read = atom_read forms plain text q a utf8 in let answer = read.read in cc)))
+        (λ q a. let read = atom_read forms plain text q a utf8 in cc)))
 
     term_answers : (text : List ℕ) → IsUtf8 text
         → MatchResult (term_query forms text) (IsTerm forms text) (IsTermFault forms text)
@@ -168,8 +167,7 @@ module _ (forms : Forms) where
             ]) (IsTerm forms text) (IsTermFault forms text)
         go None h =
             MatchResult-weaker (atom_query forms text) (atom_answers text utf8) (λ q a. Wanted text q a)
-            (λ kind f. InWanted text kind (λ rest same. let first = ap (without_first 0x7E) same
-            ∙ without_first-same 0x7E rest in cc) f)
+            (λ kind f. InWanted text kind (λ rest same. cc) f)
         go (Some atom) h =
             let whole = first_is 0x7E text atom h in
             let after = utf8_after [] atom 0x7E (omega arith) (subst IsUtf8 whole utf8) in
@@ -222,7 +220,7 @@ module _ (lexicon : Lexicon) (plain : HasNoSigns lexicon) where
     where
       named : (known : List ℕ) (r : Result Query QueryFaultKind) → bytes_eq name known ≡ true
           → Answers (known ++ 0x3A ∷ rest) r → Answers (name ++ 0x3A ∷ rest) r
-      named known r h = grind (arith, Answers, bytes_eq-Decides)
+      named known r h = grind (arith, bytes_eq-Decides)
 
       of_id : Answers (codes "m:" ++ rest) (rest_query id_forms rest)
       of_id = MatchResult-weaker (rest_query id_forms rest) (rest_answers id_forms id_plain rest utf8)
@@ -275,7 +273,7 @@ module _ (lexicon : Lexicon) (plain : HasNoSigns lexicon) where
       go (Some p) h =
           let parts = cut_parts 0x3A text p h in
           let after = utf8_after p.0 p.1 0x3A (omega arith) (subst IsUtf8 parts.0 utf8) in
-          grind (arith, Answers, prefixed_answers)
+          grind (arith, prefixed_answers)
 
   are_patterns : (patterns : List (List ℕ)) (qs : List Query) → 0 < length patterns
       → Each (IsPattern lexicon) patterns qs → ArePatterns lexicon patterns qs

@@ -1,10 +1,10 @@
 -- The reader returns each query that the grammar of patterns gives, by induction over the productions.
-use Rattle.mail_query.proofs.Words.{◌≡◌, ℕ, ◌+◌, ◌<◌, true, false, eqb, List, [], ◌∷◌, ◌++◌, None, Some, Result, Ok, refl, ◌∙◌, arith, IsUtf8, bytes_eq, codes, list_any, list_all, slice_split, All, and_parts, or_from, not-true, both_ways, false_from_ne_true, All-head, All-tail, cond_some, none-some, bytes_eq-Decides, ◌>>=◌, QueryFaultKind, Kinds, is_byte, Lexicon, Query, all_of, Forms, kinds_of, is_sign, may_be_id, id_forms, word_forms, each_read, atom_query, term_query, all_query, rest_query, prefixed_query, pattern_query, patterns_from, patterns_query, is_letter_among, kinds_named, Separated, Alone, Before, IsAtom, WholeWord, PartOfWord, FrontOfWord, IsTerm, Wanted, Unwanted, IsAll, EachTerm, IsRest, SomeAll, IsPattern, Plain, InKinds, OfId, OfDate, OfSize, OfFlags, ArePatterns, Only, AndAlso, IsAsked, EachPattern, HasNoSigns}
-use Rattle.mail_query.proofs.PieceLemmas.{other_byte, without_last-same, none_unless, Free, cut_none, cut_at}
+use Rattle.mail_query.proofs.Words.{◌≡◌, ℕ, ◌+◌, ◌<◌, true, false, eqb, List, [], ◌∷◌, ◌++◌, None, Some, Result, Ok, refl, ◌∙◌, arith, IsUtf8, bytes_eq, codes, list_any, list_all, slice_split, All, and_parts, or_from, false_from_ne_true, All-head, All-tail, cond_some, none-some, bytes_eq-Decides, ◌>>=◌, QueryFaultKind, Kinds, is_byte, Lexicon, Query, all_of, Forms, kinds_of, is_sign, may_be_id, id_forms, word_forms, each_read, atom_query, term_query, all_query, rest_query, prefixed_query, pattern_query, patterns_from, patterns_query, is_letter_among, kinds_named, Separated, Alone, Before, IsAtom, WholeWord, PartOfWord, FrontOfWord, IsTerm, Wanted, Unwanted, IsAll, EachTerm, IsRest, SomeAll, IsPattern, Plain, InKinds, OfId, OfDate, OfSize, OfFlags, ArePatterns, Only, AndAlso, IsAsked, EachPattern, HasNoSigns}
+use Rattle.mail_query.proofs.PieceLemmas.{without_last-same, Free, cut_none, cut_at}
 use Rattle.mail_query.proofs.MairixLaws.KindLemmas.{letters_read}
 use Rattle.mail_query.proofs.MairixLaws.FlagLemmas.{flags_read}
 use Rattle.mail_query.proofs.MairixLaws.SizeLemmas.{sizes_read}
-use Rattle.mail_query.proofs.MairixLaws.SignLemmas.{any-append, any-after, free_of, not_approximate, not_approximate-marked, split_none, split_at, first_free, utf8_before, utf8_after}
+use Rattle.mail_query.proofs.MairixLaws.SignLemmas.{any-append, any-after, free_of, not_approximate, not_approximate-marked, split_none, split_at, utf8_before, utf8_after}
 
 -- ---- texts between signs
 
@@ -37,10 +37,10 @@ pub record PlainForms (forms : Forms) : Type 0 where
 
 module _ (forms : Forms) (plain : PlainForms forms) where
   no_word : (text : List ℕ) → IsUtf8 text → list_any is_sign text ≡ true → forms.word text ≡ None
-  no_word text utf8 h = grind (arith, none_unless, both_ways)
+  no_word text utf8 h = grind arith
 
   no_part : (text : List ℕ) → IsUtf8 text → list_any is_sign text ≡ true → forms.part text ≡ None
-  no_part text utf8 h = grind (arith, none_unless, both_ways)
+  no_part text utf8 h = grind arith
 
   -- the atom is read as this query, and has no signs but `^` and `=`
   pub record AtomRead (text : List ℕ) (q : Query) : Type 0 where
@@ -49,7 +49,7 @@ module _ (forms : Forms) (plain : PlainForms forms) where
 
   marked_free : (sub : List ℕ) → list_any is_sign sub ≡ false → (c : ℕ) → is_sign c ≡ true → eqb 0x3D c ≡ false
       → Free c (sub ++ 0x3D ∷ [])
-  marked_free sub h c sign differs = grind (arith, any-append, free_of, or_from, differs)
+  marked_free sub h c sign differs = grind (arith, any-append, free_of)
 
   pub atom_read : (text : List ℕ) (q : Query) → IsAtom forms text q → IsUtf8 text → AtomRead text q
   atom_read text q (WholeWord word sought e) utf8 = grind (arith, not_approximate, free_of)
@@ -69,7 +69,7 @@ module _ (forms : Forms) (plain : PlainForms forms) where
               e,
             )
             refl;
-        free = grind (arith, or_from, marked_free);
+        free = grind (arith, marked_free);
       }
 
   pub record TermRead (text : List ℕ) (q : Query) : Type 0 where
@@ -78,7 +78,7 @@ module _ (forms : Forms) (plain : PlainForms forms) where
     pub slash : Free 0x2F text
 
   pub term_read : (text : List ℕ) (q : Query) → IsTerm forms text q → IsUtf8 text → TermRead text q
-  term_read text q (Wanted atom asked a) utf8 = grind (arith, atom_read, first_free)
+  term_read text q (Wanted atom asked a) utf8 = grind (arith, atom_read)
   term_read text q (Unwanted atom asked a) utf8 =
       let h = atom_read atom asked a (utf8_after [] atom 0x7E (omega arith) utf8) in
       grind arith
@@ -97,7 +97,7 @@ module _ (forms : Forms) (plain : PlainForms forms) where
 -- ---- patterns
 
 id_unsigned : (text : List ℕ) → may_be_id text ≡ true → list_any is_sign text ≡ false
-id_unsigned text h = grind (arith, and_parts, not-true)
+id_unsigned text h = grind arith
 
 pub id_plain : PlainForms id_forms
 id_plain = grind (arith, cond_some, and_parts, id_unsigned)
@@ -116,7 +116,7 @@ module _ (lexicon : Lexicon) (plain : HasNoSigns lexicon) where
       → Free 0x3A letters
   letters_free [] h = refl
   letters_free (letter ∷ letters) h =
-      grind (arith, and_parts, or_from, other_byte, letters_free letters)
+      grind (arith, letters_free letters)
 
   pub prefixed_letters : (letters rest : List ℕ) (kinds : Kinds) → kinds_of letters ≡ Some kinds
       → prefixed_query lexicon letters rest ≡ rest_query (word_forms lexicon kinds) rest
@@ -132,7 +132,7 @@ module _ (lexicon : Lexicon) (plain : HasNoSigns lexicon) where
   pub pattern_read : (text : List ℕ) (q : Query) → IsPattern lexicon text q → IsUtf8 text → pattern_query lexicon text
       ≡ Ok q
   pattern_read text q (Plain rest asked free r) utf8 =
-      grind (arith, cut_none, rest_read, word_plain)
+      grind (arith, cut_none, rest_read)
   pattern_read text q (InKinds letters rest asked named r) utf8 =
       let kinds : Kinds = kinds_named letters in
       rw (cut_at 0x3A letters rest (letters_free letters named.letters), pattern_query)

@@ -1,7 +1,7 @@
 -- The reader of patterns agrees with their grammar, and its faults are the first faults, both in both directions.
-use Rattle.mail_query.proofs.Words.{◌≡◌, ℕ, ◌+◌, false, List, [], ◌∷◌, ◌++◌, length, None, option_map, Result, Ok, Err, refl, sym, ◌∙◌, arith, IsUtf8, ◌↔◌, bytes_eq, codes, All, slice_split, false_from_ne_true, All-head, All-tail, MatchResult-at_ok, MatchResult-at_err, bytes_eq-Decides, ◌>>=◌, QueryFault, QueryFaultKind, BadPrefix, Kinds, is_byte, Lexicon, Query, all_of, sizes_of, flags_of_text, pattern_lexicon, mairix_query, Forms, kinds_of, is_approximate, id_forms, word_forms, each_read, found_query, atom_query, term_query, all_query, rest_query, prefixed_query, pattern_query, patterns_from, patterns_query, kinds_named, IsTerm, IsPattern, IsAsked, AskNothing, HasNoSigns, IsFirstOf, After, IsAtomFault, AsksApproximately, HasNoForm, IsTermFault, InWanted, InUnwanted, IsAllFault, InTerm, IsRestFault, InAll, IsPatternPrefix, OfKinds, IsPatternFault, HasNoPrefix, InPlain, InWords, InId, HasNoDate, HasNoSize, HasNoFlags, IsFirstFault, HasNone, InPattern}
+use Rattle.mail_query.proofs.Words.{◌≡◌, ℕ, ◌+◌, false, List, [], ◌∷◌, ◌++◌, length, None, Result, Ok, Err, refl, sym, ◌∙◌, arith, IsUtf8, ◌↔◌, bytes_eq, codes, All, slice_split, false_from_ne_true, All-head, All-tail, MatchResult-at_ok, MatchResult-at_err, bytes_eq-Decides, ◌>>=◌, QueryFault, QueryFaultKind, BadPrefix, Kinds, is_byte, Lexicon, Query, all_of, sizes_of, flags_of_text, pattern_lexicon, mairix_query, Forms, kinds_of, is_approximate, id_forms, word_forms, each_read, found_query, atom_query, term_query, all_query, rest_query, prefixed_query, pattern_query, patterns_from, patterns_query, kinds_named, IsTerm, IsPattern, IsAsked, AskNothing, HasNoSigns, IsFirstOf, After, IsAtomFault, AsksApproximately, HasNoForm, IsTermFault, InWanted, InUnwanted, IsAllFault, InTerm, IsRestFault, InAll, IsPatternPrefix, OfKinds, IsPatternFault, HasNoPrefix, InPlain, InWords, InId, HasNoDate, HasNoSize, HasNoFlags, IsFirstFault, HasNone, InPattern}
 use Rattle.mail_query.specs.MairixFaults.{OfId, OfDate, OfSize, OfFlags}
-use Rattle.mail_query.proofs.PieceLemmas.{without_first-other, none_unless, cut_none, cut_at}
+use Rattle.mail_query.proofs.PieceLemmas.{none_unless, cut_none, cut_at}
 use Rattle.mail_query.proofs.MairixLaws.ApproximateLemmas.{approximate_is, is_marked}
 use Rattle.mail_query.proofs.MairixLaws.EachLemmas.{at_number, unnumbered, numbered_read, each_numbered, patterns_numbered}
 use Rattle.mail_query.proofs.MairixLaws.KindLemmas.{letters_read, read_letters}
@@ -50,14 +50,14 @@ module _ (forms : Forms) where
   atom_faulty text kind (AsksApproximately atom a) = rw (is_marked atom a) refl
   atom_faulty text kind (HasNoForm atom far none) =
       let exact : is_approximate atom ≡ false =
-      grind (arith, false_from_ne_true, approximate_is) in
+      grind (arith, approximate_is) in
       let unfound : found_query forms atom ≡ None =
       none_unless (found_query forms atom) (λ q h. none q (found_asks forms atom q h)) in
       rw (exact, unfound) refl
 
   term_faulty : (text : List ℕ) (kind : QueryFaultKind) → IsTermFault forms text kind → term_query forms text ≡ Err kind
   term_faulty text kind (InWanted atom shown free f) =
-      grind (arith, without_first-other, atom_faulty)
+      grind (arith, atom_faulty)
   term_faulty text kind (InUnwanted atom shown f) =
       grind (arith, atom_faulty)
 
@@ -96,7 +96,7 @@ module _ (lexicon : Lexicon) (plain : HasNoSigns lexicon) where
       → pattern_query lexicon text ≡ Err kind
   pattern_faulty text kind (HasNoPrefix name rest free unnamed) utf8 =
       grind (arith, cut_at, unprefixed)
-  pattern_faulty text kind (InPlain rest shown free f) utf8 = grind (arith, cut_none, rest_faulty, word_plain)
+  pattern_faulty text kind (InPlain rest shown free f) utf8 = grind (arith, cut_none, rest_faulty)
   pattern_faulty text kind (InWords letters rest shown are f) utf8 =
       let kinds : Kinds = kinds_named letters in
       rw (cut_at 0x3A letters rest (letters_free lexicon plain letters are.letters), pattern_query)
@@ -106,7 +106,7 @@ module _ (lexicon : Lexicon) (plain : HasNoSigns lexicon) where
   pattern_faulty text kind (InId rest shown f) utf8 =
       rest_faulty id_forms id_plain rest shown f (utf8_after (0x6D ∷ []) rest 0x3A (omega arith) utf8)
   pattern_faulty text kind (HasNoDate dates none) utf8 =
-      grind (arith, option_map)
+      grind arith
   pattern_faulty text kind (HasNoSize sizes none) utf8 =
       cc (none_unless (sizes_of sizes) (λ q h. none q (read_sizes sizes q h)))
   pattern_faulty text kind (HasNoFlags flags none) utf8 =

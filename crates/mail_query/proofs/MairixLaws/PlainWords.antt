@@ -26,10 +26,10 @@ piece_is_no_sign c piece =
 
 none_pass : (cs : List ℕ) → list_all is_piece cs ≡ true → NonePass is_sign cs
 none_pass [] h = tt
-none_pass (c ∷ cs) h = grind (arith, and_parts, piece_is_no_sign, none_pass cs)
+none_pass (c ∷ cs) h = grind (arith, piece_is_no_sign, none_pass cs)
 
 large_is_no_sign : (b : ℕ) → 128 ≤ b → is_sign b ≡ false
-large_is_no_sign b h = grind (arith, false_from_ne_true, sign_below)
+large_is_no_sign b h = grind arith
 
 byte_is_no_sign : (text : List ℕ) → NoCharPasses is_sign text → (i : ℕ) → i < length text → is_sign (get_or text i 0)
     ≡ false
@@ -50,7 +50,7 @@ piece_plain text utf8 h =
 
 word_plain : (text : List ℕ) → IsUtf8 text → is_one_word text ≡ true → list_any is_sign text ≡ false
 word_plain text utf8 h =
-    grind (arith, and_parts, is_one_word-parts, piece_plain)
+    grind (arith, is_one_word-parts, piece_plain)
 
 pub mail_plain : (dates : List ℕ → Option Range) → HasNoSigns (mail_lexicon dates)
 mail_plain dates = record { words = word_plain; pieces = piece_plain }

@@ -1,7 +1,7 @@
 -- Sizes are read as their grammar says.
 use Rattle.mail_query.proofs.Words.{◌≡◌, ℕ, ◌-◌, ◌<◌, List, [], ◌∷◌, ◌++◌, length, Option, Some, None, refl, sym, ◌∙◌, arith, length-append, ◌*◌, ◌≤◌, true, false, eqb, option_map, subst, ◌&&◌, IsLastAndRest, list_all, get_or-append_seam, slice_get-get_or, cond_some, option_and_then_some, last_byte, before_last_byte, factor_of, scaled_size, size_with, size_of, size_limit, low_of, high_of, sizes_between, sizes_of, is_ascii_digit, leb-true, le-leb, and_parts, and_from, or_from, Query, Size, texts_around, IsNumber, IsSize, InBytes, InUnits, IsLow, FromZero, FromSize, IsHigh, Unbounded, ToSize, IsSizes, Between}
 use Rattle.std.specs.Str.Parse.{digits_value}
-use Rattle.mail_query.proofs.PieceLemmas.{last_of, before_last, other_byte, Free, cut_at}
+use Rattle.mail_query.proofs.PieceLemmas.{last_of, before_last, Free, cut_at}
 use Rattle.mail_query.proofs.MairixLaws.SignLemmas.{any-append, cut_parts, map_some}
 
 last_place : (front : List ℕ) (letter : ℕ) → length (front ++ letter ∷ []) - 1 ≡ length front
@@ -65,14 +65,11 @@ last_and_rest text front last e = grind (arith, length-append)
 
 last_digit : (front : List ℕ) (last : ℕ) → list_all is_ascii_digit (front ++ last ∷ []) ≡ true → is_ascii_digit last
     ≡ true
-last_digit [] last h = grind (arith, and_parts)
-last_digit (b ∷ bs) last h = grind (arith, and_parts, last_digit bs last)
-
-digit_differs : (b c : ℕ) → is_ascii_digit b ≡ true → is_ascii_digit c ≡ false → eqb b c ≡ false
-digit_differs b c h k = grind (arith, other_byte)
+last_digit [] last h = grind arith
+last_digit (b ∷ bs) last h = grind (arith, last_digit bs last)
 
 no_unit : (b : ℕ) → is_ascii_digit b ≡ true → factor_of b ≡ None
-no_unit b h = grind (arith, digit_differs)
+no_unit b h = grind arith
 
 -- ---- sizes
 
@@ -81,7 +78,7 @@ same_worth digits = omega arith
 
 in_bytes : (digits : List ℕ) (size : ℕ) → Scaled 1 digits size → IsSize digits size
 in_bytes digits size s = rw (sym (same_worth digits) ∙ s.size_is) at
-    (InBytes digits s.number (omega (arith, same_worth digits, s.small)))
+    (InBytes digits s.number (omega arith))
 
 read_size : (text : List ℕ) (size : ℕ) → size_of text ≡ Some size → IsSize text size
 read_size [] size e = grind (arith, size_of-nothing)
@@ -114,10 +111,10 @@ size_read text size (InUnits digits letter factor n e small) =
 digits_free : (digits : List ℕ) → list_all is_ascii_digit digits ≡ true → Free 0x2D digits
 digits_free [] h = refl
 digits_free (b ∷ bs) h =
-    grind (arith, and_parts, or_from, digit_differs, digits_free bs)
+    grind (arith, digits_free bs)
 
 unit_differs : (letter factor : ℕ) → factor_of letter ≡ Some factor → eqb letter 0x2D ≡ false
-unit_differs letter factor e = grind (arith, other_byte)
+unit_differs letter factor e = grind arith
 
 size_free : (text : List ℕ) (size : ℕ) → IsSize text size → Free 0x2D text
 size_free text size h = grind (arith, digits_free, any-append, or_from, unit_differs)
@@ -129,7 +126,7 @@ nonempty_low : (text : List ℕ) (size : ℕ) → size_of text ≡ Some size →
 nonempty_low text size h = grind (arith, size_of-nothing)
 
 nonempty_high : (text : List ℕ) (size : ℕ) → size_of text ≡ Some size → high_of text ≡ Some (Some size)
-nonempty_high text size h = grind (arith, size_of-nothing, option_map)
+nonempty_high text size h = grind (arith, size_of-nothing)
 
 low_read : (text : List ℕ) (least : ℕ) → IsLow text least → low_of text ≡ Some least
 low_read text least h = grind (arith, nonempty_low, size_read)
@@ -137,14 +134,10 @@ low_read text least h = grind (arith, nonempty_low, size_read)
 high_read : (text : List ℕ) (most : Option ℕ) → IsHigh text most → high_of text ≡ Some most
 high_read text most h = grind (arith, nonempty_high, size_read)
 
-between_read : (low high : List ℕ) (least : ℕ) (most : Option ℕ) → low_of low ≡ Some least → high_of high ≡ Some most
-    → sizes_between low high ≡ Some (Size least most)
-between_read low high least most h k = rw (h, k) refl
-
 pub sizes_read : (text : List ℕ) (q : Query) → IsSizes text q → sizes_of text ≡ Some q
 unfolding sizes_of
 sizes_read text q (Between low high least most l h) =
-    grind (arith, cut_at, low_free, between_read, low_read, high_read)
+    grind (arith, cut_at, low_free, low_read, high_read)
 
 read_low : (text : List ℕ) (least : ℕ) → low_of text ≡ Some least → IsLow text least
 read_low [] least e = let zero : 0 ≡ least = cc in subst (IsLow []) zero FromZero
