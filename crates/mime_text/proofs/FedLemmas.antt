@@ -1,5 +1,5 @@
 -- How the lines read and the pairs given grow with each call of MessageText.
-use Rattle.mime_text.proofs.Words.{◌≡◌, ◌∙◌, ◌++◌, ℕ, List, [], ◌∷◌, sym, ap, append_assoc, arith, Result, OnOk, IfErr, TextKind, SinkFault, TextFault, Pair, texts_of_message, PassedPairs, Stopped, PassesPairs, IsOver, Comes, KnowsFacts}
+use Rattle.mime_text.proofs.Words.{◌≡◌, ◌∙◌, ◌++◌, ℕ, List, [], ◌∷◌, append_assoc, arith, Result, OnOk, IfErr, TextKind, SinkFault, TextFault, PassedPairs, Stopped, PassesPairs, IsOver, Comes, KnowsFacts}
 use Rattle.std.proofs.lemmas.List.{append-nil}
 use Rattle.mime_text.specs.declared.message_text.MessageText.{MessageText}
 use Rattle.mime_text.specs.Fed.{Feeds, FeedsPart, FinishesTexts, FinishesPart}
@@ -32,9 +32,13 @@ module _ {S : Type 0} (takes : S → TextKind → List ℕ → S → Type 0)
       record {
         pairs = h.pairs;
         taken = h.taken;
-        whole = λ ls ps f. ap texts_of_message (sym (append-nil ls)) ∙ f.texts []
-            ∙ ap (λ (x : List Pair). ps ++ x) ((h.rest f.coming f.comes).2 []
-            ∙ ap (λ (x : List Pair). h.pairs ++ x) ((h.rest f.coming f.comes).1 []) ∙ append-nil h.pairs);
+        whole = λ ls ps f. cc (
+          append-nil ls,
+          f.texts [],
+          (h.rest f.coming f.comes).2 [],
+          (h.rest f.coming f.comes).1 [],
+          append-nil h.pairs,
+        );
       }
 
   pub finishes-part : (m : MessageText) (fault : TextFault) (s t : S)

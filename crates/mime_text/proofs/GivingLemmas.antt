@@ -1,15 +1,11 @@
 -- How the texts of fields are given to a sink, one after another.
-use Rattle.mime_text.proofs.Words.{◌≡◌, ◌∙◌, ◌++◌, ℕ, List, [], ◌∷◌, Some, refl, append_assoc, arith, Result, Ok, Err, option_map, HeaderField, TextKind, SinkFault, TextFault, Failed, OutOfMemory, Sink, Pair, ComingPairs, Gave, Broke, Hands, Bool, kind_of_field, text_of_body, texts_of_fields, header_texts, before_blanks, unfolded_body, piece_of, parameter}
+use Rattle.mime_text.proofs.Words.{◌≡◌, ◌∙◌, ◌++◌, ℕ, List, [], ◌∷◌, Some, refl, append_assoc, arith, Result, Ok, Err, HeaderField, TextKind, SinkFault, TextFault, Failed, OutOfMemory, Sink, Pair, ComingPairs, Gave, Broke, Hands, Bool, kind_of_field, text_of_body, texts_of_fields, header_texts, before_blanks, unfolded_body, piece_of, parameter}
 use Rattle.std.proofs.lemmas.List.{append-nil}
 use Rattle.mime_text.specs.Inside.Showing.{Shows}
 
 pub texts-some : (f : HeaderField) (k : TextKind) → kind_of_field f.name ≡ Some k → texts_of_fields (f ∷ [])
     ≡ (k, text_of_body f.body) ∷ []
-texts-some f k e = grind (arith, option_map)
-
-pub texts-cons : (f : HeaderField) (fs : List HeaderField) → texts_of_fields (f ∷ fs)
-    ≡ texts_of_fields (f ∷ []) ++ texts_of_fields fs
-texts-cons f fs = grind arith
+texts-some f k e = grind arith
 
 -- a header without fields has no texts
 header-none : (counted : Bool) → header_texts counted [] ≡ []

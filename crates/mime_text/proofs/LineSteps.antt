@@ -1,5 +1,5 @@
 -- The decoded bytes of a leaf, line by line: each call gives the first lines and keeps the rest.
-use Rattle.mime_text.proofs.Words.{◌≡◌, ◌∙◌, ◌+◌, ◌-◌, ◌<◌, ◌≤◌, ◌==◌, ◌++◌, ℕ, true, false, List, [], ◌∷◌, Some, None, length, take, drop, refl, sym, ap, ap₂, arith, length-append, append-nil, Result, Ok, Err, OnOk, concat, eqb-true, nat_tests, length-drop, drop-drop, take-append-le, drop-append-le, take_all, drop_all, take-append-drop, length_before_feed, line_end_of, lines, line_end-more, line_end-positive, line_end-within, line_end-whole, TextKind, SinkFault, TextFault, OutOfMemory, Sink, Failed, LineTexts, Pair, Gave, Broke, Hands, ends_in, line_text, is_tag_open_after_line, texts_after, body_pairs, pairs_of_lines, pairs_of_bytes}
+use Rattle.mime_text.proofs.Words.{◌≡◌, ◌∙◌, ◌+◌, ◌-◌, ◌<◌, ◌≤◌, ◌==◌, ◌++◌, ℕ, true, false, List, [], ◌∷◌, Some, None, length, take, drop, refl, sym, ap, arith, length-append, append-nil, Result, Ok, Err, OnOk, concat, length-drop, drop-drop, take-append-le, drop-append-le, take_all, drop_all, take-append-drop, length_before_feed, line_end_of, lines, line_end-more, line_end-positive, line_end-within, line_end-whole, TextKind, SinkFault, TextFault, OutOfMemory, Sink, Failed, LineTexts, Pair, Gave, Broke, Hands, ends_in, line_text, is_tag_open_after_line, texts_after, body_pairs, pairs_of_lines, pairs_of_bytes}
 use Rattle.std.proofs.lemmas.Slice.Eq.{bytes_eq-Decides}
 use Rattle.mbox_cutter.proofs.LineLists.{lines-cons, lines-nil}
 use Rattle.mail_words.specs.declared.kind.TextKind.TheVariants as kind
@@ -46,19 +46,22 @@ feed-end line feed last short =
     in
     let front : List ℕ = take (length line - 1) line in
     let whole : line ≡ front ++ 10 ∷ [] = grind (arith, take-append-drop) in
-    grind (arith, length-append, before_feed-last, nat_tests)
+    grind (arith, length-append, before_feed-last)
 
 pub lines-whole : (line more : List ℕ) → Some (length line) ≡ line_end_of line → lines (line ++ more)
     ≡ line ∷ lines more
 lines-whole line more e =
-    lines-first line more (length line) e ∙ ap₂ (λ (x y : List ℕ). x ∷ lines (y ++ more))
-    (take_all (length line) line (omega arith)) (drop_all (length line) line (omega arith))
+    cc (
+      lines-first line more (length line) e,
+      take_all (length line) line (omega arith),
+      drop_all (length line) line (omega arith),
+    )
 
 -- ---- the texts of lines
 
 pub no_bytes : (b : List ℕ) → (length b == 0) ≡ true → b ≡ []
 no_bytes [] e = refl
-no_bytes (x ∷ xs) e = grind (arith, eqb-true)
+no_bytes (x ∷ xs) e = grind arith
 
 pub some_bytes : (b : List ℕ) → (length b == 0) ≡ false → 0 < length b
 some_bytes b h = grind arith
@@ -124,7 +127,7 @@ module _ {S : Type 0} (takes : S → TextKind → List ℕ → S → Type 0)
       gave-along takes refuses (λ ms. pairs_of_bytes old (b ++ concat ms))
       (λ ms. pairs_of_bytes new (rest ++ concat ms)) (λ _. pairs_of_bytes old b) (λ _. []) (λ _. []) s t
       (λ ms. ap (pairs_of_bytes old) (sym (append-nil b)))
-      (λ ms. sym (ap (pairs_of_bytes new) (append-nil rest ∙ e) ∙ ap (pairs_of_lines new) lines-nil)) h
+      (λ ms. sym (cc (append-nil rest, lines-nil))) h
 
   -- the first lines were given, and the last line is left
   pub gave-front : (old new : LineTexts) (b rest : List ℕ) (s t : S) → None ≡ line_end_of rest → 0 < length rest
@@ -136,7 +139,7 @@ module _ {S : Type 0} (takes : S → TextKind → List ℕ → S → Type 0)
       (λ ms. pairs_of_bytes new (rest ++ concat ms)) (λ _. pairs_of_bytes old b)
       (λ _. pairs_of_lines new (rest ∷ [])) (λ _. []) s t
       (λ ms. ap (pairs_of_bytes old) (sym (append-nil b)))
-      (λ ms. sym (ap (pairs_of_bytes new) (append-nil rest) ∙ ap (pairs_of_lines new) (lines-last rest e some))) h
+      (λ ms. sym (cc (append-nil rest, lines-last rest e some))) h
 
   pub broke-front : (old : LineTexts) (b : List ℕ) (fault : TextFault) (s t : S)
       → Broke takes refuses (λ ms. pairs_of_bytes old (b ++ concat ms)) fault s t

@@ -1,5 +1,5 @@
 -- Parameters piece by piece: each piece is shorter than the bytes that it begins, so the recursion ends.
-use Rattle.mime_text.proofs.Words.{◌≡◌, ◌∙◌, ◌<◌, ◌≤◌, ◌+◌, ◌++◌, ◌==◌, ℕ, zero, suc, Bool, true, false, List, [], ◌∷◌, Option, Some, None, length, cond, refl, sym, ap, arith, length-append, option_map, unwrap_or, find, option_map_or, option_to_list, split_while, after_blanks, without_outer_blanks, cut_at, length-split_while, split_while-joined, IsCut-from, Parameter, Piece, quoted_and_rest, value_and_rest, is_parameter_name_byte, after_semicolon, piece_of, parameters_within, parameters_after, first_named, parameter}
+use Rattle.mime_text.proofs.Words.{◌≡◌, ◌∙◌, ◌<◌, ◌≤◌, ◌+◌, ◌++◌, ◌==◌, ℕ, zero, suc, Bool, true, false, List, [], ◌∷◌, Option, Some, None, length, cond, refl, sym, ap, arith, length-append, option_map, find, option_map_or, option_to_list, split_while, after_blanks, without_outer_blanks, cut_at, length-split_while, split_while-joined, IsCut-from, Parameter, Piece, quoted_and_rest, value_and_rest, is_parameter_name_byte, after_semicolon, piece_of, parameters_within, parameters_after, first_named, parameter}
 use Rattle.header_text.specs.Names.{is_named}
 
 -- ---- what follows is shorter
@@ -16,9 +16,6 @@ length-quoted (b ∷ c ∷ bs) = grind (arith, length-quoted bs, length-quoted (
 
 length-value_and_rest : (bs : List ℕ) → length (value_and_rest bs).1 ≤ length bs
 length-value_and_rest bs = grind (arith, length-quoted, length-split_while)
-
-same_some : (x y : List ℕ) → Some x ≡ Some y → x ≡ y
-same_some x y h = grind (arith, unwrap_or)
 
 length-after : (bs rest : List ℕ) (o : Option (List ℕ × List ℕ)) → cut_at 0x3B bs ≡ o → option_map (λ parts. parts.1) o
     ≡ Some rest → length rest < length bs
@@ -181,7 +178,7 @@ size-within (suc n) name bs found h = by_piece (piece_of bs).parameter refl (λ 
         → length found ≤ length bs
     by_name p e true f same h =
         let here = size-piece bs in
-        grind (arith, same_some)
+        grind arith
     by_name p e false f same h = by_later (piece_of bs).later refl same h
 
     by_piece : (o : Option Parameter) → (piece_of bs).parameter ≡ o

@@ -1,5 +1,5 @@
 -- What a part reader's calls give to a sink, and what is known of the facts after them.
-use Rattle.mime_text.proofs.Words.{◌≡◌, ◌∙◌, ◌++◌, ℕ, Bool, true, false, List, [], ◌∷◌, Option, Some, None, refl, sym, ap, subst, append_assoc, arith, if◌then◌else◌, Result, Ok, Err, OnOk, IfErr, is_empty, HeaderField, fields_of, HasLines, taken_of, has_empty, More, Ended, TextKind, SinkFault, TextFault, OutOfMemory, DefaultType, TextPlain, Frame, State, PartReader, Pair, ComingPairs, Gave, Broke, Hands, shape_of, facts_of, pairs_to_come, StreamPlace, InHeader, InLeaf, place_after_hit, Nest, lead_to, texts_of_message, PassedPairs, Stopped, PassesPairs, IsOver, given_from, header_texts, ending, given_after_header, given_after_delimiter, ComesAt, Comes, ComesAfterHeader, ComesEndingAt, ComesEnding, KnowsAt, KnowsFacts, NotesFacts}
+use Rattle.mime_text.proofs.Words.{◌≡◌, ◌∙◌, ◌++◌, ℕ, Bool, true, false, List, [], ◌∷◌, Option, Some, None, refl, sym, subst, append_assoc, arith, if◌then◌else◌, Result, Ok, Err, OnOk, IfErr, is_empty, HeaderField, fields_of, HasLines, taken_of, has_empty, More, Ended, TextKind, SinkFault, TextFault, OutOfMemory, DefaultType, TextPlain, Frame, State, PartReader, Pair, ComingPairs, Gave, Broke, Hands, shape_of, facts_of, pairs_to_come, StreamPlace, InHeader, InLeaf, place_after_hit, Nest, lead_to, texts_of_message, PassedPairs, Stopped, PassesPairs, IsOver, given_from, header_texts, ending, given_after_header, given_after_delimiter, ComesAt, Comes, ComesAfterHeader, ComesEndingAt, ComesEnding, KnowsAt, KnowsFacts, NotesFacts}
 use Rattle.std.proofs.lemmas.List.{append-nil}
 use Rattle.std.specs.Result.{result_or}
 use Rattle.header_text.specs.declared.header.Header.{Header}
@@ -7,13 +7,10 @@ use Rattle.mime_text.specs.declared.header.facts.Facts.{Facts}
 use Rattle.mime_text.specs.declared.parts.part_reader.State.TheVariants as state
 use Rattle.mime_text.specs.declared.parts.nesting.Lead.{Lead}
 use Rattle.mime_text.specs.declared.parts.nesting.Lead.TheVariants.{Nowhere}
-use Rattle.mime_text.proofs.StepLemmas.{value-header, given-hit, given-leaf_line, given-more, given-ended, given-leaf, empty_ends, fields-on, given-message}
+use Rattle.mime_text.proofs.StepLemmas.{value-header, given-hit, given-leaf_line, given-ended, given-leaf, empty_ends, fields-on, given-message}
 
 abbrev Line : Type 0
 Line = List ℕ
-
-more-open : (b : Bool) → More ≡ (if b then Ended else More) → b ≡ false
-more-open b e = grind arith
 
 ended-empty : (b : Bool) → Ended ≡ (if b then Ended else More) → b ≡ true
 ended-empty b e = grind arith
@@ -38,8 +35,7 @@ whole-ending r fields c f k = go r.state k
   where
     go : (s : State) → ComesAt s r c → c [] ≡ ending s fields r.leaf
     go state.Skipping k = k []
-    go (state.InHeader counted d) k = k.3 [] ∙ value-header counted r.nesting.left d k.0 k.2
-        ∙ ap (header_texts counted) (sym (f k.0 k.1))
+    go (state.InHeader counted d) k = cc (k.3 [], value-header counted r.nesting.left d k.0 k.2, f k.0 k.1)
     go state.InLeaf k = k []
 
 -- a line that delimits ends the entity
@@ -50,14 +46,14 @@ delimits : (r : PartReader) (n : Nest) (lead : Lead) (l : Line) (h : List Frame 
 delimits r n lead l h e q c k = go r.state k
   where
     go : (s : State) → ComesAt s r c → ComesEndingAt s (record r { nesting = n }) lead (λ ms. c (l ∷ ms))
-    go state.Skipping k = grind (arith, given-hit)
+    go state.Skipping k = grind arith
     go (state.InHeader counted d) k = (
       k.0,
       k.1,
       grind (arith, given-hit, value-header),
     )
     go state.InLeaf k =
-        grind (arith, given-hit)
+        grind arith
 
 pub delimited : (r : PartReader) (n : Nest) (lead : Lead) (l : Line) → lead_to {A = Pair} lead n
     ≡ place_after_hit r.nesting.frames l → (lead ≡ Nowhere → ⊥)
@@ -77,11 +73,8 @@ pub facts-delimited : (r n : PartReader) (nest : Nest) (lead : Lead) (l : Line) 
 facts-delimited r n nest lead l e away same ls k = let P : Option Facts → Type 0 = λ o. KnowsAt o n (ls ++ l ∷ [])
     in subst P (sym same) (go r.facts k)
   where
-    outside : (x : Lead) → lead_to {A = Pair} x nest ≡ None → (x ≡ Nowhere → ⊥) → ⊥
-    outside x h h2 = grind arith
-
     go : (o : Option Facts) → KnowsAt o r ls → KnowsAt o n (ls ++ l ∷ [])
-    go None k = grind (arith, outside)
+    go None k = grind arith
     go (Some f) k = one_more f ls l k
 
 -- the facts when the header has ended
@@ -108,7 +101,7 @@ facts-whole r f notes ls k = go r.facts notes k
   where
     go : (o : Option Facts) → NotesFacts o (Some f) r.header → KnowsAt o r ls → f ≡ facts_of (fields_of ls)
     go None e k = let q = e ls k.lines in cc
-    go (Some g) e k = let q : f ≡ g = cc in q ∙ k [] ∙ ap (λ (ks : List Line). facts_of (fields_of ks)) (append-nil ls)
+    go (Some g) e k = let q : f ≡ g = cc in cc (k [], append-nil ls)
 
 -- what comes after the header of these lines
 abbrev after_lines : PartReader → DefaultType → List Line → ComingPairs
@@ -216,10 +209,12 @@ module _ {S : Type 0} (takes : S → TextKind → List ℕ → S → Type 0)
         rest = λ c k. (
           here,
           comes,
-          λ ms. at c k (l ∷ ms) ∙ given-leaf_line r.nesting.frames (pairs_to_come r.leaf) l ms away
-              ∙ given-leaf r.nesting.frames (λ ks. pairs_to_come r.leaf (l ∷ ks)) (pairs_to_come n.leaf) h.pairs h.rest
-              ms
-              ∙ ap (λ (x : Nest). h.pairs ++ given_from x.frames (InLeaf (pairs_to_come n.leaf)) ms) (sym q),
+          λ ms. cc (
+            at c k (l ∷ ms),
+            given-leaf_line r.nesting.frames (pairs_to_come r.leaf) l ms away,
+            given-leaf r.nesting.frames (λ ks. pairs_to_come r.leaf (l ∷ ks)) (pairs_to_come n.leaf) h.pairs h.rest
+                ms,
+          ),
         );
       }
   leaf-passes r n l (Err fault) s t e p q away h =
@@ -231,7 +226,7 @@ module _ {S : Type 0} (takes : S → TextKind → List ℕ → S → Type 0)
         broken = h.broken;
         front = λ c k ms. (
           given_from r.nesting.frames (InLeaf later) ms,
-          grind (arith, given-leaf_line, given-leaf),
+          grind (arith, given-leaf),
         );
       }
 
@@ -247,12 +242,12 @@ module _ {S : Type 0} (takes : S → TextKind → List ℕ → S → Type 0)
       let here : List Line → ComingPairs = λ held. given_from n.nesting.frames
       (InHeader counted n.nesting.left d (held ++ l ∷ [])) in
       let still : (held : List Line) → HasLines r.header held → has_empty (held ++ l ∷ []) ≡ false =
-      grind (arith, more-open) in
+      grind arith in
       let comes : (held : List Line) → HasLines r.header held → Comes n (here held) = grind arith in
       record {
         pairs = [];
         taken = refl;
-        rest = grind (arith, given-more, empty_ends);
+        rest = grind (arith, empty_ends);
       }
 
   pub ended-comes : (r n : PartReader) (l : Line) (counted : Bool) (d : DefaultType) → r.state
@@ -262,13 +257,11 @@ module _ {S : Type 0} (takes : S → TextKind → List ℕ → S → Type 0)
       → (c : ComingPairs) → Comes r c → ComesAfterHeader n counted d (λ ms. c (l ∷ ms))
   ended-comes r n l counted d e q away push taken c k =
       let at : ComesAt (state.InHeader counted d) r c = grind arith in
-      let t : is_empty l ≡ true = grind (arith, empty_ends, ended-empty) in
+      let t : is_empty l ≡ true = grind (arith, empty_ends) in
       let fields = fields_of (at.0 ++ l ∷ []) in (
         at.0 ++ l ∷ [],
         push at.0 at.1,
-        λ ms. at.3 (l ∷ ms) ∙ given-ended r.nesting counted d at.0 l ms away at.2 t
-            ∙ ap (λ (x : Nest). header_texts counted fields ++ given_after_header (shape_of d fields) x fields ms)
-            (sym q),
+        λ ms. cc (at.3 (l ∷ ms), given-ended r.nesting counted d at.0 l ms away at.2 t),
       )
 
   -- ---- the end of an entity, and of the message

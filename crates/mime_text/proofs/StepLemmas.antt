@@ -1,5 +1,5 @@
 -- The place of a reader after one more line.
-use Rattle.mime_text.proofs.Words.{◌≡◌, ◌∙◌, ◌++◌, ℕ, zero, suc, Bool, true, false, ◌||◌, List, [], ◌∷◌, Option, Some, None, refl, ap, append_assoc, arith, flat_map, flat_map-append, is_empty, lines, fields_of, before_blanks, unfolded_body, has_empty, base64_bytes, bytes_of_sextets, Charset, DefaultType, TextPlain, Shape, Frame, Pair, ComingPairs, texts_of_fields, piece_of, parameter, shape_of, name_texts, leaf_texts, body_lines, parts, parts_by, is_left, StreamPlace, InHeader, InLeaf, place_after_hit, counted_part, header_parts, value, after_header, inner_step, Nest, part_texts, texts_of_message, given_from, counted_texts, header_texts, given_after_header}
+use Rattle.mime_text.proofs.Words.{◌≡◌, ◌∙◌, ◌++◌, ℕ, zero, suc, Bool, true, false, ◌||◌, List, [], ◌∷◌, Option, Some, None, refl, append_assoc, arith, flat_map, flat_map-append, is_empty, lines, fields_of, before_blanks, unfolded_body, has_empty, base64_bytes, bytes_of_sextets, Charset, DefaultType, TextPlain, Shape, Frame, Pair, ComingPairs, texts_of_fields, piece_of, parameter, shape_of, name_texts, leaf_texts, body_lines, parts, parts_by, is_left, StreamPlace, InHeader, InLeaf, place_after_hit, counted_part, header_parts, value, after_header, inner_step, Nest, part_texts, texts_of_message, given_from, counted_texts, header_texts, given_after_header}
 use Rattle.std.proofs.lemmas.List.{append-nil}
 use Rattle.mime_text.specs.declared.leaf.transfer.TransferEncoding.{TransferEncoding}
 use Rattle.mime_text.proofs.StreamLaws.{IsHeader, fields_of-ended, whole_given}
@@ -28,7 +28,7 @@ fields-ended ls l e t = fields_of-ended ls l [] (IsHeader-of ls e) t
 
 pub fields-on : (ls : List Line) (l : Line) (ms : List Line) → has_empty ls ≡ false → is_empty l ≡ true
     → fields_of ((ls ++ l ∷ []) ++ ms) ≡ fields_of (ls ++ l ∷ [])
-fields-on ls l ms e t = grind (arith, append_assoc, fields_of-ended, IsHeader-of, fields-ended)
+fields-on ls l ms e t = grind (arith, append_assoc, fields_of-ended, IsHeader-of)
 
 counted-is : (c : Bool) (ls : List Line) → flat_map part_texts (counted_part c ls) ≡ counted_texts c (fields_of ls)
 counted-is c ls = grind (arith, append-nil)
@@ -64,23 +64,23 @@ parts-none : (n : ℕ) (d : DefaultType) (ls : List Line) → body_lines ls ≡ 
     → flat_map part_texts (parts shape_of n d ls) ≡ name_at n ls
 parts-none zero d ls e = refl
 parts-none (suc n) d ls e =
-    ap (λ (ps : List Pair). name_texts (fields_of ls) ++ ps)
-    (go n (λ k. parts-none n TextPlain k) (shape_of d (fields_of ls))) ∙ append-nil (name_texts (fields_of ls))
+    cc (go n (λ k. parts-none n TextPlain k) (shape_of d (fields_of ls)), append-nil (name_texts (fields_of ls)))
   where
     go : (m : ℕ) → ((ks : List Line) → body_lines ks ≡ [] → flat_map part_texts (parts shape_of m TextPlain ks)
         ≡ name_at m ks) → (sh : Shape)
         → flat_map part_texts (parts_by shape_of (λ e ks. parts shape_of m e ks) (is_left m) sh ls) ≡ []
-    go m h sh = grind (arith, flat_map, parts, fields-none, name-none, append-nil, leaf_texts-none)
+    go m h sh = grind (arith, fields-none, name-none, leaf_texts-none)
 
 -- what an entity gives that ends in its header
 pub value-header : (c : Bool) (n : ℕ) (d : DefaultType) (held : List Line) → has_empty held ≡ false
     → value shape_of part_texts (InHeader c n d held) [] ≡ header_texts c (fields_of held)
 value-header c n d held e =
-    ap (λ (ks : List Line). flat_map part_texts (counted_part c ks ++ parts shape_of (suc n) d ks)) (append-nil held)
-    ∙ flat_map-append part_texts (counted_part c held) (parts shape_of (suc n) d held)
-    ∙ ap (λ (ps : List Pair). flat_map part_texts (counted_part c held) ++ ps)
-    (parts-none (suc n) d held (body-none held e))
-    ∙ ap (λ (ps : List Pair). ps ++ name_texts (fields_of held)) (counted-is c held)
+    cc (
+      append-nil held,
+      flat_map-append part_texts (counted_part c held) (parts shape_of (suc n) d held),
+      parts-none (suc n) d held (body-none held e),
+      counted-is c held,
+    )
 
 -- ---- one line
 
@@ -115,13 +115,6 @@ given-header : (nest : Nest) (c : Bool) (d : DefaultType) (held : List Line) (l 
     ≡ (header_step t nest c d held l).0 ++ given_from (header_step t nest c d held l).1.0
     (header_step t nest c d held l).1.1 ms
 given-header nest c d held l ms t e q = grind (arith, given-inner)
-
--- the header goes on
-pub given-more : (nest : Nest) (c : Bool) (d : DefaultType) (held : List Line) (l : Line) (ms : List Line)
-    → place_after_hit {A = Pair} nest.frames l ≡ None → is_empty l ≡ false
-    → given_from nest.frames (InHeader c nest.left d held) (l ∷ ms)
-    ≡ given_from nest.frames (InHeader c nest.left d (held ++ l ∷ [])) ms
-given-more nest c d held l ms e t = given-header nest c d held l ms false e t
 
 -- the header ends
 pub given-ended : (nest : Nest) (c : Bool) (d : DefaultType) (held : List Line) (l : Line) (ms : List Line)

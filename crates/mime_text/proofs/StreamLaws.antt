@@ -1,5 +1,5 @@
 -- Reading one line at a time gives what the parts of the outermost split give: induction over the lines and the depths.
-use Rattle.mime_text.proofs.Words.{◌≡◌, ℕ, zero, suc, Bool, true, false, cond, List, [], ◌∷◌, ◌++◌, Option, Some, None, refl, sym, ap, ◌∙◌, append_assoc, arith, flat_map, AllByRecursion, flat_map-append, is_empty, HeaderField, lines_before_empty, fields_of, DefaultType, Shape, Multipart, Message, Text, Other, Frame, Part, Entity, body_lines, is_closing, is_delimiter, preamble_and_pieces, multipart_pieces, parts, parts_by, is_left, StreamPlace, Skip, InHeader, InLeaf, or_else, own_hit, place_after_hit, counted_part, header_parts, value, after_header, inner_step, step_by, values_given}
+use Rattle.mime_text.proofs.Words.{◌≡◌, ℕ, zero, suc, Bool, true, false, cond, List, [], ◌∷◌, ◌++◌, Option, Some, None, refl, sym, ◌∙◌, append_assoc, arith, flat_map, AllByRecursion, flat_map-append, is_empty, HeaderField, lines_before_empty, fields_of, DefaultType, Shape, Multipart, Message, Text, Other, Frame, Part, Entity, body_lines, is_closing, is_delimiter, preamble_and_pieces, multipart_pieces, parts, parts_by, is_left, StreamPlace, Skip, InHeader, InLeaf, or_else, own_hit, place_after_hit, counted_part, header_parts, value, after_header, inner_step, step_by, values_given}
 use Rattle.std.proofs.lemmas.List.{append-nil}
 
 abbrev Line : Type 0
@@ -118,8 +118,7 @@ module _ {A : Type 0} (shape_of : DefaultType → List HeaderField → Shape) (g
   by_shape : (sh : Shape) (ls : List Line) (fs : List Frame) (left : ℕ) (lines : List Line) (l : Line)
       → AllStreams ls → AllFrames ls → IsHeader lines → is_empty l ≡ true → EntityIs sh ls fs left lines l
   by_shape (Multipart b e) ls fs zero lines l m g h t =
-      m fs Skip tt ∙ ap (λ (ps : List Part). flat_map gives ps ++ later fs ls)
-      (sym (flat_map-none {A = Part} (multipart_pieces b (body_lines (lines ++ l ∷ before fs ls)))))
+      cc (m fs Skip tt, flat_map-none {A = Part} (multipart_pieces b (body_lines (lines ++ l ∷ before fs ls))))
   by_shape (Multipart b e) ls fs (suc left) lines l m g h t = grind (arith, body_of)
   by_shape Message ls fs zero lines l m g h t = m fs Skip tt
   by_shape Message ls fs (suc left) lines l m g h t = grind (arith, body_of)
@@ -138,23 +137,20 @@ module _ {A : Type 0} (shape_of : DefaultType → List HeaderField → Shape) (g
       let all = lines ++ l ∷ x in
       let inside : Shape → List Part = λ sh. parts_by shape_of (λ e ks. parts shape_of left e ks) (is_left left) sh all
       in
-      ap (λ (ps : List A). flat_map gives (header_parts c lines) ++ ps)
-      (by_shape (shape_of d (fields_of lines)) ls fs left lines l m g h t)
-      ∙ sym (append_assoc (flat_map gives (header_parts c lines))
-      (flat_map gives (inside (shape_of d (fields_of lines)))) (later fs ls))
-      ∙ ap (λ (ps : List A). ps ++ later fs ls)
-      (sym (flat_map-append gives (header_parts c lines) (inside (shape_of d (fields_of lines)))))
-      ∙ ap (λ (ps : List Part). flat_map gives (ps ++ inside (shape_of d (fields_of lines))) ++ later fs ls)
-      (sym (header_parts-ended c lines l x h t))
-      ∙ ap (λ (k : List HeaderField). flat_map gives (header_parts c all ++ inside (shape_of d k)) ++ later fs ls)
-      (sym (fields_of-ended lines l x h t))
-      ∙ ap (λ (ps : List Part). flat_map gives ps ++ later fs ls)
-      (append_assoc (counted_part c all) (Entity (fields_of all) ∷ []) (inside (shape_of d (fields_of all))))
+      cc (
+        by_shape (shape_of d (fields_of lines)) ls fs left lines l m g h t,
+        append_assoc (flat_map gives (header_parts c lines)) (flat_map gives (inside (shape_of d (fields_of lines))))
+            (later fs ls),
+        flat_map-append gives (header_parts c lines) (inside (shape_of d (fields_of lines))),
+        header_parts-ended c lines l x h t,
+        fields_of-ended lines l x h t,
+        append_assoc (counted_part c all) (Entity (fields_of all) ∷ []) (inside (shape_of d (fields_of all))),
+      )
 
   one_more : (c : Bool) (n : ℕ) (d : DefaultType) (lines : List Line) (l : Line) (rest : List Line)
       → value shape_of gives (InHeader c n d (lines ++ l ∷ [])) rest
       ≡ value shape_of gives (InHeader c n d lines) (l ∷ rest)
-  one_more c n d lines l rest = grind (arith, flat_map, parts, append_assoc)
+  one_more c n d lines l rest = grind (arith, append_assoc)
 
   by_place : (place : StreamPlace A) (ls : List Line) (fs : List Frame) (l : Line) → AllStreams ls → AllFrames ls
       → IsFine place

@@ -1,5 +1,5 @@
 -- Tags line by line give what tags in the whole text give.
-use Rattle.mime_text.proofs.Words.{◌≡◌, ◌∙◌, ◌<◌, ◌==◌, ◌++◌, ℕ, Bool, true, false, List, [], ◌∷◌, map, reverse, refl, ap, ap₂, arith, append_assoc, encode_utf8_all, IsUtf8, eqb-true, reverse-append, encode_ascii, encodes-chars, Lacks, text_of, Charset, is_open, without_tags, lines_without_tags, texts_of_lines, is_tag_open_after, is_tag_open_after_all, blanked_tags, texts_after}
+use Rattle.mime_text.proofs.Words.{◌≡◌, ◌∙◌, ◌<◌, ◌==◌, ◌++◌, ℕ, Bool, true, false, List, [], ◌∷◌, map, reverse, refl, ap, arith, append_assoc, encode_utf8_all, IsUtf8, eqb-true, reverse-append, encode_ascii, encodes-chars, Lacks, text_of, Charset, is_open, without_tags, lines_without_tags, texts_of_lines, is_tag_open_after, is_tag_open_after_all, blanked_tags, texts_after}
 use Rattle.std.specs.Char.{encode_utf8}
 use Rattle.std.specs.Str.{chars}
 
@@ -17,8 +17,8 @@ is_open-line : (before cs : List ℕ) → is_open (reverse cs ++ before) ≡ is_
 is_open-line before [] = refl
 is_open-line before (c ∷ cs) =
     let turned : reverse (c ∷ cs) ++ before ≡ reverse cs ++ c ∷ before =
-    ap (λ (l : List ℕ). l ++ before) (reverse-append (c ∷ []) cs) ∙ append_assoc (reverse cs) (c ∷ []) before in
-    grind (arith, is_open-step, is_open-line (c ∷ before) cs)
+    cc (reverse-append (c ∷ []) cs, append_assoc (reverse cs) (c ∷ []) before) in
+    grind (arith, is_open-line (c ∷ before) cs)
 
 tagged_lines : (charset : Charset) (before : List ℕ) (o : Bool) (ls : List (List ℕ)) → is_open before ≡ o
     → map encode_utf8_all (lines_without_tags before (map (λ line. chars (text_of charset line)) ls))
@@ -26,9 +26,11 @@ tagged_lines : (charset : Charset) (before : List ℕ) (o : Bool) (ls : List (Li
 tagged_lines charset before o [] h = refl
 tagged_lines charset before o (l ∷ ls) h =
     let cs : List ℕ = chars (text_of charset l) in
-    ap₂ (λ (t : List ℕ) (ts : List (List ℕ)). encode_utf8_all t ∷ ts) (without_tags-blanked before cs o h)
-    (tagged_lines charset (reverse cs ++ before) (is_tag_open_after_all o cs) ls
-    (is_open-line before cs ∙ ap (λ (b : Bool). is_tag_open_after_all b cs) h))
+    cc (
+      without_tags-blanked before cs o h,
+      tagged_lines charset (reverse cs ++ before) (is_tag_open_after_all o cs) ls
+          (is_open-line before cs ∙ ap (λ (b : Bool). is_tag_open_after_all b cs) h),
+    )
 
 plain_lines : (charset : Charset) (o : Bool) (ls : List (List ℕ)) → map (text_of charset) ls
     ≡ texts_after charset false o ls
@@ -68,7 +70,7 @@ is_open-free (c ∷ cs) h = rw h.0 (is_open-free cs h.1)
 
 pub free-text : (text : List ℕ) (o : Bool) → o ≡ false → IsUtf8 text → Lacks 0x3C text
     → encode_utf8_all (blanked_tags o (chars text)) ≡ text
-free-text text o e utf8 h = grind (arith, encode_utf8_all, blanked-free, lacks-text, encodes-chars)
+free-text text o e utf8 h = grind (arith, blanked-free, lacks-text, encodes-chars)
 
 pub free-after : (text : List ℕ) (o : Bool) → o ≡ false → IsUtf8 text → Lacks 0x3C text
     → is_tag_open_after_all o (chars text)

@@ -1,5 +1,5 @@
 -- The loop that blanks the tags of a text, one span at a time.
-use Rattle.mime_text.proofs.Words.{◌≡◌, ℕ, zero, suc, ◌+◌, ◌≤◌, ◌<◌, Bool, true, false, List, [], ◌∷◌, ◌++◌, length, drop, get_or, replicate, chars, encode_utf8, encode_utf8_all, IsUtf8, refl, sym, ap, ◌∙◌, subst, arith, length-append, append_assoc, not, ◌≢◌, ◌==◌, option_map, Option, eqb-true, false_from_ne_true, IsAscii, take_at, drop_at, get_or_at, length_push, length-replicate, replicate-append-replicate, IsUtf8-take, IsUtf8-drop, IsUtf8-from_ascii, IsCharBoundary-before_ascii, IsCharBoundary-after_ascii, chars-append, chars-IsAscii, encode_ascii, encodes-append, encodes-chars, length-le-encodes, cut_at, Lacks, IsCut, cut_at-none, cut_at-is, is_tag_open_after, is_tag_open_after_all, blanked_tags, span_end, shown_span}
+use Rattle.mime_text.proofs.Words.{◌≡◌, ℕ, zero, suc, ◌+◌, ◌≤◌, ◌<◌, Bool, true, false, List, [], ◌∷◌, ◌++◌, length, drop, get_or, replicate, chars, encode_utf8, encode_utf8_all, IsUtf8, refl, sym, ◌∙◌, arith, length-append, append_assoc, not, ◌≢◌, ◌==◌, option_map, Option, eqb-true, false_from_ne_true, IsAscii, take_at, drop_at, get_or_at, length_push, length-replicate, replicate-append-replicate, IsUtf8-take, IsUtf8-drop, IsUtf8-from_ascii, IsCharBoundary-after_ascii, chars-append, chars-IsAscii, encode_ascii, encodes-append, encodes-chars, length-le-encodes, cut_at, Lacks, IsCut, cut_at-none, cut_at-is, is_tag_open_after, is_tag_open_after_all, blanked_tags, span_end, shown_span}
 use denote.Ref.{Bor}
 use Rattle.std.proofs.lemmas.Str.Ascii.{IsAscii-nil, IsAscii-cons}
 use Rattle.std.proofs.lemmas.Str.Pattern.{IsSplitOnceResult, split_parts}
@@ -53,7 +53,7 @@ pub blank-line : (charset : Charset) (line spaces : List ℕ) → IsAscii line �
     → (spaces ≡ encode_utf8_all (blanked_tags true (chars (text_of charset line))))
     × (is_tag_open_after_all true (chars (text_of charset line)) ≡ true)
 blank-line charset line spaces ascii lacks e =
-    grind (arith, text_of-ascii, chars-IsAscii, encode_utf8_all, blanked-tag, encodes-spaces, is_open-tag)
+    grind (arith, text_of-ascii, chars-IsAscii, blanked-tag, encodes-spaces, is_open-tag)
 
 length-span : (o : Bool) (text : List ℕ) → IsUtf8 text
     → length (encode_utf8_all (shown_span o (chars text))) ≤ length text
@@ -63,7 +63,7 @@ length-span o text h = grind (arith, written_tag, length-replicate, length-le-en
 
 pub spaces-ascii : (n : ℕ) → IsAscii (replicate n 0x20)
 spaces-ascii zero = IsAscii-nil
-spaces-ascii (suc n) = grind (arith, IsAscii-cons, spaces-ascii n)
+spaces-ascii (suc n) = grind (arith, spaces-ascii n)
 
 -- some of the spaces that are left are added
 pub spaces-more : (into new some : List ℕ) (left n rest : ℕ) → some ≡ replicate n 0x20 → n + rest ≡ left → new
@@ -101,16 +101,16 @@ cut_text c before after ascii utf8 =
     let n : ℕ = length before in
     let is : get_or bs n 0 ≡ c = get_or_at before c after 0 n refl in
     let lt : n < length bs = omega (arith, length-append before (c ∷ after)) in
-    let front : IsUtf8 before = grind (arith, take_at, IsUtf8-take, IsCharBoundary-before_ascii) in
-    let rest : drop (n + 1) bs ≡ after = ap (drop (n + 1)) (sym (append_assoc before (c ∷ []) after))
-    ∙ drop_at (before ++ c ∷ []) after (n + 1) (length_push before c) in
+    let front : IsUtf8 before = grind (arith, take_at, IsUtf8-take) in
+    let rest : drop (n + 1) bs ≡ after = cc
+    (append_assoc before (c ∷ []) after, drop_at (before ++ c ∷ []) after (n + 1) (length_push before c)) in
     let small : IsAscii (c ∷ []) = IsAscii-cons c [] ascii IsAscii-nil in
     let later : chars (c ∷ after) ≡ c ∷ chars after =
     grind (arith, chars-append (c ∷ []) after (IsUtf8-from_ascii (c ∷ []) small), chars-IsAscii (c ∷ []) small) in
     record {
       utf8_before = front;
-      utf8_after = subst (λ (l : List ℕ). IsUtf8 l) rest
-          (IsUtf8-drop bs (n + 1) utf8 (IsCharBoundary-after_ascii bs n utf8 lt (omega (arith, is))));
+      utf8_after = rw rest at (IsUtf8-drop bs (n + 1) utf8
+          (IsCharBoundary-after_ascii bs n utf8 lt (omega (arith, is))));
       characters = grind (arith, chars-append);
     }
 

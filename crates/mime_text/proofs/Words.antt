@@ -59,13 +59,13 @@ pub use Rattle.mime_text.specs.declared.parts.shape.DefaultType.{DefaultType}
 pub use Rattle.mime_text.specs.declared.parts.shape.DefaultType.TheVariants.{MessageRfc822, TextPlain}
 pub use Rattle.mime_text.specs.declared.parts.shape.Shape.{Shape}
 pub use Rattle.mime_text.specs.declared.parts.shape.Shape.TheVariants.{Message, Multipart, Other, Text}
-pub use Rattle.std.proofs.Common.{All, Bool, Bor, IfSome, IsUtf8, List, None, Option, Some, [], add-one, ap, append-nil, append_assoc, ap₂, arith, chars, cond, drop, encode_utf8, encode_utf8_all, eq-eqb, false, get_or, if◌then◌else◌, length, length-append, map, min, refl, replicate, reverse, rules, string_bytes, subst, suc, sym, take, true, zero, ℕ, ◌++◌, ◌+◌, ◌-◌, ◌<◌, ◌==◌, ◌||◌, ◌∙◌, ◌∷◌, ◌≡◌, ◌≤◌}
+pub use Rattle.std.proofs.Common.{All, Bool, Bor, IfSome, IsUtf8, List, None, Option, Some, [], add-one, ap, append-nil, append_assoc, arith, chars, cond, drop, encode_utf8, encode_utf8_all, eq-eqb, false, get_or, if◌then◌else◌, length, length-append, map, min, refl, replicate, reverse, rules, string_bytes, subst, suc, sym, take, true, zero, ℕ, ◌++◌, ◌+◌, ◌-◌, ◌<◌, ◌==◌, ◌||◌, ◌∙◌, ◌∷◌, ◌≡◌, ◌≤◌}
 pub use Rattle.std.proofs.lemmas.Bool.{eqb-true, false_from_ne_true}
 pub use Rattle.std.proofs.lemmas.Bool.Decides.{nat_tests}
 pub use Rattle.std.proofs.lemmas.Grind.{flat_map-append}
 pub use Rattle.std.proofs.lemmas.List.{drop-append-le, drop-drop, drop_all, drop_at, get_or_at, length-drop, length-replicate, length-take, length_push, replicate-append-replicate, reverse-append, take-append-drop, take-append-le, take-replicate, take_all, take_at}
 pub use Rattle.std.proofs.lemmas.List.Elements.{All-append, All-map}
-pub use Rattle.std.proofs.lemmas.Str.{IsCharBoundary-after_ascii, IsCharBoundary-before_ascii, IsCharBoundary-from_ascii, IsUtf8-drop, IsUtf8-from_ascii, IsUtf8-take, chars-IsAscii, chars-append, encode_ascii, encodes-append, encodes-chars, length-le-encodes}
+pub use Rattle.std.proofs.lemmas.Str.{IsCharBoundary-after_ascii, IsCharBoundary-from_ascii, IsUtf8-drop, IsUtf8-from_ascii, IsUtf8-take, chars-IsAscii, chars-append, encode_ascii, encodes-append, encodes-chars, length-le-encodes}
 pub use Rattle.std.specs.Global.{Global}
 pub use Rattle.std.specs.List.{AllByRecursion, concat, find, list_any}
 pub use Rattle.std.specs.Option.{option_map_or, option_to_list}

@@ -1,6 +1,6 @@
 -- `give_counted` gives the texts of all fields in order, field by field, and stops at the first fault.
 use Rattle.mime_text.proofs.Words.{◌≡◌, ◌∙◌, ◌≤◌, ◌++◌, List, [], ◌∷◌, true, ap, arith, rules, HeaderField, fields_size, most_in_header, texts_of_fields, ComingPairs}
-use Rattle.mime_text.proofs.GivingLemmas.{texts-cons, gave-front, gave-after, broke-front}
+use Rattle.mime_text.proofs.GivingLemmas.{gave-front, gave-after, broke-front}
 use Rattle.mime_text.proofs.Handing.{fault-up, gave-more, broke-later}
 use Rattle.mime_text.proofs.header.giving.give_counted.Goals as goal
 
@@ -11,7 +11,7 @@ pub returns-in_err-give_field : goal.returns-in_err-give_field
 returns-in_err-give_field g c =
     let f : HeaderField = record { name = c.in-Some.field.name.now; body = c.in-Some.field.body.now } in
     let e : texts_of_fields c.loop-field.field-iterator ≡ texts_of_fields (f ∷ []) ++ texts_of_fields c.next.new.self =
-    grind (arith, texts-cons) in
+    grind arith in
     let is : c.args.counted ≡ true = search rules in
     rw (is, fault-up c.from_residual.result _ c.from_residual.ensures.1)
     (broke-later g.S.TextSink.takes g.S.TextSink.refuses (texts c.args.fields) (texts c.loop-field.field-iterator) _ _ _
@@ -23,9 +23,9 @@ pub loop-field-preserved : goal.loop-field-preserved
 loop-field-preserved g c =
     let f : HeaderField = record { name = c.in-Some.field.name.now; body = c.in-Some.field.body.now } in
     let e : texts_of_fields c.loop-field.field-iterator ≡ texts_of_fields (f ∷ []) ++ texts_of_fields c.next.new.self =
-    grind (arith, texts-cons) in
+    grind arith in
     let size : fields_size c.next.new.self ≤ most_in_header =
-    omega (arith, c.loop-field.invariant.2, ap fields_size c.in-Some.ensures.steps) in (
+    omega (arith, ap fields_size c.in-Some.ensures.steps) in (
       tt,
       tt,
       size,

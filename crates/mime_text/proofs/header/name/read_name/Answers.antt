@@ -1,5 +1,5 @@
 -- `read_name` reads the second parameter only if the first is empty or missing, and so does the definition.
-use Rattle.mime_text.proofs.Words.{◌≡◌, ◌==◌, true, length, [], ℕ, List, Option, Some, Result, OnOk, unwrap_or, arith, rules}
+use Rattle.mime_text.proofs.Words.{◌≡◌, ◌==◌, true, length, [], ℕ, List, Option, Some, Result, OnOk, unwrap_or, arith}
 use Rattle.std.specs.Option.{option_or}
 use Rattle.mime_text.proofs.LineSteps.{no_bytes}
 use Rattle.mime_text.specs.Names.{unless_empty}
@@ -13,4 +13,4 @@ second result o p first into e h is = grind (arith, no_bytes)
 
 pub returns-then-is_empty-clause-name : goal.returns-then-is_empty-clause-name
 returns-then-is_empty-clause-name c =
-    grind (arith, rules, second)
+    grind (arith, second)

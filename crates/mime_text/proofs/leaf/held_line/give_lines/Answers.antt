@@ -28,7 +28,7 @@ loop-len-preserved g c =
     record {
       free = omega arith;
       few = omega arith;
-      fits = omega (arith, before.fits, within, c.split_at.ensures.back_len);
+      fits = omega arith;
       rest = grind (arith, rest-step);
       gave = gave-more g.S.TextSink.takes g.S.TextSink.refuses
           (λ ls. pairs_of_bytes c.args.texts.now (c.args.bytes.now ++ concat ls))

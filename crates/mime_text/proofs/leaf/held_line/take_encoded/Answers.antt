@@ -27,8 +27,7 @@ returns-clause-hands g c =
     (λ ls. still_decoded c.push.new.self ls ∷ [])
     c.take_lines.result c.args.sink.now c.take_lines.new.sink
     (λ ls. ap (pairs_of_bytes c.args.texts.now)
-    (sym (c.in_ok-push.ensures.bytes ls) ∙ ap (λ (l : List ℕ). mid ++ l)
-    (sym (concat-one (still_decoded c.push.new.self ls)))))
+    (cc (c.in_ok-push.ensures.bytes ls, concat-one (still_decoded c.push.new.self ls))))
     (λ ls. ap (λ (l : List ℕ). pairs_of_bytes c.take_lines.new.texts (end ++ l))
     (sym (concat-one (still_decoded c.push.new.self ls))))
     c.take_lines.ensures.hands

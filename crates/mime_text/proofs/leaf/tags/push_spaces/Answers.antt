@@ -1,5 +1,5 @@
 -- `push_spaces` adds at most 64 spaces in a turn. It cuts between characters, because a space is one byte.
-use Rattle.mime_text.proofs.Words.{◌≡◌, ◌∙◌, ◌-◌, ℕ, take, replicate, ap, arith, string_bytes, take-replicate, IsCharBoundary-from_ascii}
+use Rattle.mime_text.proofs.Words.{◌≡◌, ◌∙◌, ◌-◌, ℕ, replicate, arith, take-replicate, IsCharBoundary-from_ascii}
 use Rattle.mime_text.proofs.TagReads.{spaces-ascii, spaces-more}
 use Rattle.mime_text.proofs.leaf.tags.push_spaces.Goals as goal
 
@@ -10,7 +10,6 @@ range-requires-clause-end_boundary c = IsCharBoundary-from_ascii (replicate 64 0
 pub loop-left-preserved : goal.loop-left-preserved
 loop-left-preserved c =
     let whole : c.min-some.result - 0 ≡ c.min-some.result = omega arith in
-    let some : c.range.result.now ≡ replicate c.min-some.result 0x20 = c.range.ensures.value
-    ∙ ap (λ (n : ℕ). take n (replicate 64 0x20)) whole
-    ∙ take-replicate {X = ℕ} c.min-some.result 64 0x20 (omega arith) in
-    grind (arith, string_bytes, spaces-more)
+    let some : c.range.result.now ≡ replicate c.min-some.result 0x20 =
+    cc (c.range.ensures.value, whole, take-replicate {X = ℕ} c.min-some.result 64 0x20 (omega arith)) in
+    grind (arith, spaces-more)

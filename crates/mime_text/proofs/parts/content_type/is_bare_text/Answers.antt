@@ -19,12 +19,12 @@ has_none r h = grind arith
 
 pub returns-in-TextPlain-clause-shape : goal.returns-in-TextPlain-clause-shape
 returns-in-TextPlain-clause-shape c t ls h =
-    grind (arith, shape-bare, has_none)
+    grind (arith, shape-bare)
 
 pub returns-in-TextPlain-clause-charset : goal.returns-in-TextPlain-clause-charset
 returns-in-TextPlain-clause-charset c t ls h =
-    grind (arith, charset-bare, has_none)
+    grind (arith, charset-bare)
 
 pub returns-in-TextPlain-clause-transfer : goal.returns-in-TextPlain-clause-transfer
 returns-in-TextPlain-clause-transfer c t ls h =
-    grind (arith, transfer-bare, has_none)
+    grind (arith, transfer-bare)

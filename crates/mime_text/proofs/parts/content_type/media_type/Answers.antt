@@ -1,5 +1,5 @@
 -- `media_type` returns the text before the first semicolon if it has a slash, and the default if not, as defined.
-use Rattle.mime_text.proofs.Words.{◌≡◌, ◌∙◌, ◌==◌, ℕ, Bool, true, false, List, Bor, Option, Some, None, refl, sym, ap, rules, not, if◌then◌else◌, option_map, unwrap_or, without_outer_blanks, split_while, split_while-cut, split_while-free, cut_at, DefaultType, arith}
+use Rattle.mime_text.proofs.Words.{◌≡◌, ◌∙◌, ◌==◌, ℕ, Bool, true, false, List, Bor, Option, Some, None, refl, sym, rules, not, if◌then◌else◌, option_map, unwrap_or, without_outer_blanks, split_while, split_while-cut, split_while-free, cut_at, DefaultType, arith}
 use Rattle.mime_text.specs.Types.{type_text, has_slash, default_type, media_type}
 use Rattle.mime_text.specs.declared.parts.shape.DefaultType.TheVariants.{TextPlain, MessageRfc822}
 use Rattle.mime_text.proofs.parts.content_type.media_type.Goals as goal
@@ -16,7 +16,7 @@ chosen : (default : DefaultType) (value e : Bor (List ℕ)) (o : Option (Bor (Li
     ≡ without_outer_blanks parts.0.now → has_slash text ≡ b
     → (if b then text else default_type default) ≡ media_type default value.now
 chosen default value e o parts text b h i j k =
-    let named : text ≡ type_text value.now = j ∙ ap without_outer_blanks (ap (λ p. p.0.now) i ∙ front value e o h) in
+    let named : text ≡ type_text value.now = cc (front value e o h) in
     rw (← named, k) refl
 
 pub returns-then-contains : goal.returns-then-contains

@@ -14,9 +14,12 @@ returns-in-Some-clause-some c =
     (drop (suc c.loop-at.at) c.args.frames.now) c.args.text.now in (
       f,
       here,
-      c.loop-at.invariant ∙ scan-at c.args.text.now c.args.frames.now c.loop-at.at [] f here
-          ∙ ap (λ (o : Option Delimiter). or_else (place_after_delimiter {A = Pair} o f outer) later) kind
-          ∙ or_else-led c.in-Some.kind f outer later,
+      cc (
+        c.loop-at.invariant,
+        scan-at c.args.text.now c.args.frames.now c.loop-at.at [] f here,
+        kind,
+        or_else-led c.in-Some.kind f outer later,
+      ),
     )
 
 pub loop-at-preserved : goal.loop-at-preserved

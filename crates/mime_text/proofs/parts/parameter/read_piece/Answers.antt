@@ -1,5 +1,5 @@
 -- `read_piece` reads a name and, after a `=`, its value, because the name is all of the text before the bytes after it.
-use Rattle.mime_text.proofs.Words.{◌≡◌, ◌∙◌, ◌-◌, ◌++◌, ℕ, List, Some, sym, ap₂, eq-eqb, split_while, after_blanks, without_outer_blanks, length-split_while, take-split_while, Parameter, is_parameter_name_byte, value_and_rest, arith}
+use Rattle.mime_text.proofs.Words.{◌≡◌, ◌∙◌, ◌-◌, ◌++◌, ℕ, List, sym, eq-eqb, split_while, after_blanks, without_outer_blanks, length-split_while, take-split_while, Parameter, is_parameter_name_byte, value_and_rest, arith}
 use Rattle.mime_text.proofs.ParameterLemmas.{piece-parameter}
 use Rattle.mime_text.proofs.parts.parameter.read_piece.Goals as goal
 
@@ -18,6 +18,9 @@ returns-in_ok-after-in-Some-clause-parameter c =
     grind (arith, take-split_while) in
     let value : c.read_value.new.into.items ≡ (value_and_rest (after_blanks rest)).0 =
     grind arith in
-    ap₂ (λ (n v : List ℕ). Some (parameter_of n v)) name value
-    ∙ sym (piece-parameter text rest c.in-Some.sign.now (sym c.after_name-tail.ensures ∙ c.in-Some.ensures.cases.0)
-    (eq-eqb c.in-Some.sign.now 61 c.if-sign-eq61.true))
+    cc (
+      name,
+      value,
+      piece-parameter text rest c.in-Some.sign.now
+          (sym c.after_name-tail.ensures ∙ c.in-Some.ensures.cases.0) (eq-eqb c.in-Some.sign.now 61 c.if-sign-eq61.true),
+    )

@@ -10,7 +10,7 @@ use Rattle.mime_text.proofs.leaf.leaf_reader.LeafReader.line.Goals as goal
 passed : (texts : LineTexts) (decoder : Decoder) (held line : List ℕ) (ls : List (List ℕ)) → decoder ≡ Identity → held
     ≡ [] → Some (length line) ≡ line_end_of line
     → pairs_of_bytes texts (held ++ still_decoded decoder (line ∷ ls)) ≡ pairs_of_lines texts (line ∷ lines (concat ls))
-passed texts decoder held line ls e f whole = grind (arith, lines-whole, concat)
+passed texts decoder held line ls e f whole = grind (arith, lines-whole)
 
 after : (texts : LineTexts) (decoder : Decoder) (held : List ℕ) (ls : List (List ℕ)) → decoder ≡ Identity → held ≡ []
     → pairs_of_bytes texts (held ++ still_decoded decoder ls) ≡ pairs_of_lines texts (lines (concat ls))

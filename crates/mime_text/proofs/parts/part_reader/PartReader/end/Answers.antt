@@ -1,6 +1,5 @@
 -- `PartReader::end` gives the texts that are left and returns the facts, by the results of its two calls.
 use Rattle.std.proofs.Common.{arith}
-use Rattle.std.proofs.lemmas.Result.{IfOk-weaker}
 use Rattle.mime_text.proofs.Handing.{fault-up}
 use Rattle.mime_text.proofs.PassingLemmas.{end-passes, end-stopped, facts-whole}
 use Rattle.mime_text.proofs.parts.part_reader.PartReader.end.Goals as goal
@@ -17,4 +16,4 @@ returns-clause-pairs g c =
     c.fields.ensures.fields c.in_ok-end_entity.ensures c.take.ensures.fault
 
 pub returns-clause-facts : goal.returns-clause-facts
-returns-clause-facts g c = grind (arith, IfOk-weaker, facts-whole)
+returns-clause-facts g c = grind (arith, facts-whole)
