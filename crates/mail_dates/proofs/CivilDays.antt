@@ -35,7 +35,7 @@ within_year year h h2 = grind (arith, ints)
 pub civil_date : (year : ℤ) (month day : ℕ) → IsCivilDay year month day → IsDate year (to_z w8 month) (to_z w8 day)
 civil_date year month day h =
     let long = days_in_month_bounds year month in
-    let m : to_z w8 month ≡ pos month = omega (arith, ints, h.month_high) in
+    let m : to_z w8 month ≡ pos month = omega (arith, ints) in
     grind (arith, to_z, ints, year_within)
 
 pub date_civil : (year : ℤ) (month day : ℕ) → month ≤ 12 → day ≤ 31 → IsDate year (to_z w8 month) (to_z w8 day)
@@ -46,7 +46,7 @@ date_civil year month day few short h = grind (arith, to_z, ints, within_year)
 pub day_number_at : (year : ℤ) (month day : ℕ) (date : Date) (number : ℤ) → IsCivilDay year month day
     → IsYmd year (to_z w8 month) (to_z w8 day) date → number ≡ epoch_day date → Some number ≡ day_number year month day
 day_number_at year month day date number h is e =
-    grind (arith, days_in_month_bounds, ints, day_number_some)
+    grind (arith, day_number_some)
 
 -- a day with a number is a day of the calendar
 pub record IsNumbered (year : ℤ) (month day : ℕ) (number : ℤ) : Type 0 where
@@ -56,17 +56,17 @@ pub record IsNumbered (year : ℤ) (month day : ℕ) (number : ℤ) : Type 0 whe
 pub numbered : (year : ℤ) (month day : ℕ) (number : ℤ) → day_number year month day ≡ Some number
     → IsNumbered year month day number
 unfolding day_number
-numbered year month day number e = grind (arith, civil, civil_parts)
+numbered year month day number e = grind (arith, civil_parts)
 
 -- a day of a later year has a greater number
 pub later_number : (date : Date) (next : ℤ) (month day : ℕ) (number : ℤ) → date.year <ℤ next → day_number next month day
     ≡ Some number → epoch_day date <ℤ number
 later_number date next month day number later e =
     let n = numbered _ _ _ _ e in
-    grind (arith, day_count-lt_year, civil, signed_arith, days_from_civil-day_count)
+    grind (arith, day_count-lt_year, signed_arith, days_from_civil-day_count)
 
 -- no day after the year 9999 has a number
 pub none_later : (next : ℤ) (month day : ℕ) (number : ℤ) → pos 9999 <ℤ next → day_number next month day ≡ Some number
     → ⊥
 none_later next month day number later e =
-    grind (arith, numbered, year_within, signed_arith)
+    grind (arith, numbered)

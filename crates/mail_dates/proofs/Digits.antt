@@ -16,6 +16,6 @@ and_true a b h = grind arith
 -- the element at each place is a digit
 pub digit_at : (xs : List ℕ) (i : ℕ) → list_all is_ascii_digit xs ≡ true → i < length xs → IsDigit (get_or xs i 0)
 digit_at [] i e h = absurd (omega arith)
-digit_at (x ∷ xs) zero e h = grind (arith, digit_is, and_true)
+digit_at (x ∷ xs) zero e h = grind (arith, digit_is)
 digit_at (x ∷ xs) (suc i) e h = digit_at xs i (and_true _ _ e).1
     (omega arith)

@@ -1,5 +1,5 @@
 -- Day numbers by a formula, with which long tables can be computed.
-use Rattle.mail_dates.proofs.Words.{◌≡◌, ℕ, suc, ◌+◌, ◌≤◌, Option, Some, None, arith, ℤ, pos, ◌+ℤ◌, ◌-ℤ◌, unsigned_abs, nat_le, if◌then◌else◌, nat_tests, ints, days_from_civil, days_from_civil-day_count, signed_arith, is_civil_day, day_number}
+use Rattle.mail_dates.proofs.Words.{◌≡◌, ℕ, suc, ◌+◌, ◌≤◌, Option, Some, None, arith, ℤ, pos, ◌+ℤ◌, ◌-ℤ◌, unsigned_abs, nat_le, if◌then◌else◌, ints, days_from_civil, days_from_civil-day_count, signed_arith, is_civil_day, day_number}
 use Rattle.jiff_core.specs.March.{march_days, march_months}
 use Rattle.jiff_core.proofs.MarchLemmas.{day_count-late, day_count-early}
 use Rattle.mail_dates.proofs.CivilDays.{IsCivilDay, civil_parts}
@@ -34,7 +34,7 @@ late : (year : ℤ) (month day : ℕ) → IsCivilDay year month day → 3 ≤ mo
     ≡ march_count (year +ℤ pos 10000) month day
 late year month day h high =
     let place : year +ℤ pos 10000 ≡ pos (unsigned_abs (year +ℤ pos 10000)) =
-    grind (arith, shifted) in
+    grind arith in
     omega (
       arith,
       signed_arith,
@@ -44,7 +44,7 @@ late year month day h high =
 
 march_number_is : (year : ℤ) (month day : ℕ) → IsCivilDay year month day → days_from_civil year month day
     ≡ march_number year month day
-march_number_is year month day h = grind (arith, nat_le, early, nat_tests, late)
+march_number_is year month day h = grind (arith, early, late)
 
 day_number_is : (year : ℤ) (month day : ℕ) → day_number year month day ≡ number_by_formula year month day
 unfolding day_number

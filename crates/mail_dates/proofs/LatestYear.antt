@@ -31,9 +31,6 @@ module _ (passes : ℤ → Bool) where
       let p = placed _ low in
       grind arith
 
-  pub latest_none : latest_up_to (negsuc 9999) passes ≡ None
-  latest_none = refl
-
   -- the years after this one can be left out, if none of them passes
   pub latest_from : (k : ℕ) (year : ℤ) → negsuc 9998 ≤ℤ year → ((next : ℤ) → year <ℤ next → passes next ≡ false)
       → latest_up_to (year +ℤ pos k) passes ≡ latest_up_to year passes
@@ -51,7 +48,7 @@ module _ (passes : ℤ → Bool) where
       rw top at (latest_from k _ low no_later)
     where
       rest : (year : ℤ) → year ≤ℤ pos 9999 → year +ℤ pos (unsigned_abs (pos 9999 -ℤ year)) ≡ pos 9999
-      rest year h = grind (arith, ints)
+      rest year h = grind arith
 
 -- days of a year later than that of this day don't begin by this day
 begins_later : (by year next : ℤ) (month date : ℕ) (last : Option ℤ) → HasNoLater by year → year <ℤ next
@@ -105,7 +102,7 @@ pub search_over : (which : DaysOfYear) (by year : ℤ) → IsSearch which by yea
 unfolding latest_days_by
 search_over which by year h over =
     let end : year ≡ negsuc 9999 = let low = h.low in omega (arith, ints) in
-    grind (arith, latest_none)
+    grind arith
 
 -- ---- the year found is the latest, and the latest is found
 
@@ -151,7 +148,7 @@ is_latest passes year calendar h =
     ∙ latest_found passes year within.0 h.has
   where
     not_later : (next : ℤ) → year <ℤ next → (t : Bool) → passes next ≡ t → t ≡ false
-    not_later next later true e = grind (arith, ints)
+    not_later next later true e = grind arith
     not_later next later false e = refl
 
 -- a year that has days is a year of the calendar

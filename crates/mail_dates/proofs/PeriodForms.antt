@@ -37,12 +37,6 @@ no_digits (x ∷ xs) h = grind (arith, nat_tests, no_digits xs)
 begins-append : (xs ys : List ℕ) → 1 ≤ length xs → begins_with_digit (xs ++ ys) ≡ begins_with_digit xs
 begins-append xs ys h = grind arith
 
-digit_first : (xs : List ℕ) → 1 ≤ length xs → list_all is_ascii_digit xs ≡ true → begins_with_digit xs ≡ true
-digit_first xs h h2 = grind arith
-
-letter_first : (xs : List ℕ) → 1 ≤ length xs → list_all is_ascii_alphabetic xs ≡ true → begins_with_digit xs ≡ false
-letter_first xs h h2 = grind (arith, nat_tests)
-
 -- ---- the parts of periods
 
 pub record IsNumber (least most : ℕ) (text : List ℕ) : Type 0 where
@@ -89,7 +83,7 @@ found o n e = grind arith
 lower_name : (text : List ℕ) → is_lower_name (str_to_ascii_lowercase text) ≡ true → IsName text
 unfolding is_lower_name
 lower_name text e =
-    grind (arith, nat_tests, same_length, same_letters)
+    grind (arith, same_length, same_letters)
 
 pub name_is : (text : List ℕ) (month : ℕ) → month_of text ≡ Some month → IsName text
 unfolding month_of is_lower_name
@@ -116,12 +110,6 @@ days_ago text e h = grind (arith, nat_tests)
 too_long : (text : List ℕ) → length text ≡ digits_in text + 1 → 5 ≤ digits_in text → form_of text ≡ None
 too_long text e h = grind (arith, nat_tests)
 
-full_date : (text : List ℕ) → length text ≡ 8 → digits_in text ≡ 8 → form_of text ≡ Some FullDate
-full_date text e f = rw (e, f) refl
-
-whole_year : (text : List ℕ) → length text ≡ 4 → digits_in text ≡ 4 → form_of text ≡ Some WholeYear
-whole_year text e f = rw (e, f) refl
-
 named_month : (text : List ℕ) → length text ≡ 3 → digits_in text ≡ 0 → form_of text ≡ Some NamedMonth
 named_month text e f = rw (e, f) refl
 
@@ -136,7 +124,7 @@ record IsCount (text : List ℕ) (digits : ℕ) : Type 0 where
 
 count_is : (digits : List ℕ) (letter : ℕ) → list_all is_ascii_digit digits ≡ true
     → is_ascii_alphabetic letter ≡ true → IsCount (digits ++ letter ∷ []) (length digits)
-count_is digits letter h e = grind (arith, digits_in-append, all_digits, no_digits, length-append)
+count_is digits letter h e = grind (arith, digits_in-append, all_digits, length-append)
 
 pub formed : (today by : ℤ) (text : List ℕ) (form : Form) (days : Option Days) → IsPeriod today by text form days
     → form_of text ≡ Some form
@@ -148,19 +136,19 @@ formed today by text form days (YearMonthDay yyyy mm dd year month day e f g) =
     let y = number_is 4 4 yyyy year e in
     let m = number_is 2 2 mm month f in
     let d = number_is 2 2 dd day g in
-    grind (arith, full_date, length-append, digits_in-append, all_digits)
+    grind (arith, length-append, digits_in-append, all_digits)
 formed today by text form days (Year yyyy year e) =
-    grind (arith, number_is, whole_year, all_digits)
+    grind (arith, number_is, all_digits)
 formed today by text form days (Month name month e) =
     let n = name_is name month e in named_month name n.three (no_digits name n.letters)
 formed today by text form days (DayMonth digits name day month d e) =
     let n = name_is name month e in
     let k = day_is digits day d in
-    grind (arith, begins-append, digit_first, digits_in-append, all_digits, no_digits, with_month, length-append)
+    grind (arith, begins-append, digits_in-append, all_digits, no_digits, with_month, length-append)
 formed today by text form days (MonthDay name digits month day e d) =
     let n = name_is name month e in
     let k = day_is digits day d in
-    grind (arith, begins-append, letter_first, digits_in-append, all_digits, no_digits, with_month, length-append)
+    grind (arith, begins-append, digits_in-append, all_digits, no_digits, with_month, length-append)
 
 pub same_form : (today by : ℤ) (text : List ℕ) (f g : Form) (d e : Option Days) → IsPeriod today by text f d
     → IsPeriod today by text g e → f ≡ g

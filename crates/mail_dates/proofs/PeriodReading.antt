@@ -1,12 +1,12 @@
 -- Periods are read as their grammar says.
-use Rattle.mail_dates.proofs.Words.{◌≡◌, ℕ, ◌-◌, ◌<◌, Bool, true, false, ◌&&◌, ◌==◌, List, [], ◌∷◌, ◌++◌, length, take, drop, Option, Some, None, Result, Ok, Err, refl, sym, ap, ◌∙◌, subst, arith, ℤ, pos, list_all, nat_tests, if◌then◌else◌, option_map, number_in, month_of, day_number, period_of, ◌>>=◌, DateFault, BadDate, BadNumber, ◌↔◌}
+use Rattle.mail_dates.proofs.Words.{◌≡◌, ℕ, ◌-◌, ◌<◌, Bool, true, false, ◌&&◌, ◌==◌, List, [], ◌∷◌, ◌++◌, length, take, drop, Option, Some, None, Result, Ok, Err, refl, sym, ap, ◌∙◌, subst, arith, ℤ, pos, list_all, if◌then◌else◌, option_map, number_in, month_of, day_number, period_of, ◌>>=◌, DateFault, BadDate, BadNumber, ◌↔◌}
 use Rattle.std.specs.Prelude.{slice_range, is_some, nat_lt, ok_or}
 use Rattle.contract_words.specs.Answers.{◌>>=◌ as ◌>>=ᵣ◌}
 use Rattle.std.specs.Char.{is_ascii_digit}
 use Rattle.std.specs.Option.{option_or}
 use Rattle.std.proofs.Common.{length-append}
 use Rattle.std.proofs.Math.Seq.{take-append_seam, drop-append_seam, get_or-append_seam}
-use Rattle.std.proofs.lemmas.List.{take-append-drop, drop-drop}
+use Rattle.std.proofs.lemmas.List.{take-append-drop}
 use Rattle.std.proofs.lemmas.Option.{slice_get-get_or, option_and_then_some}
 use Rattle.mail_dates.specs.declared.days.Days.{Days}
 use Rattle.mail_dates.specs.declared.days.DaysOfYear.TheVariants as days
@@ -90,7 +90,7 @@ is_long (b ∷ bs) e = let l = last_of b bs in grind (arith, go)
         → IsLongCount (digits ++ letter ∷ [])
     at digits letter None u e = absurd cc
     at digits letter (Some unit) u e =
-        DigitsAndUnit digits letter unit (grind (arith, nat_tests)) (grind (arith, nat_tests)) u
+        DigitsAndUnit digits letter unit (grind arith) (grind arith) u
 
     go : (digits : List ℕ) (letter : ℕ) → has_long_count (digits ++ letter ∷ []) ≡ true
         → IsLongCount (digits ++ letter ∷ [])
@@ -99,7 +99,7 @@ is_long (b ∷ bs) e = let l = last_of b bs in grind (arith, go)
 
 long_is : (text : List ℕ) → IsLongCount text → has_long_count text ≡ true
 long_is text (DigitsAndUnit digits letter unit many h u) =
-    grind (arith, nat_lt, nat_tests, last_unit-last, before_last)
+    grind (arith, last_unit-last, before_last)
 
 -- ---- the parts of periods that are read
 
@@ -132,7 +132,7 @@ date_parts text period e =
 
 date_text : (text : List ℕ) → take 4 text ++ (slice_range text 4 6 ++ drop 6 text) ≡ text
 date_text text =
-    grind (arith, drop-drop, take-append-drop)
+    grind arith
 
 record YearlyParts (name digits : Option ℕ) (period : Period) : Type 0 where
   month : ℕ
@@ -168,12 +168,12 @@ module _ (today by : ℤ) where
       let y = number_is 4 4 yyyy year e in
       let m = number_is 2 2 mm month f in
       let d = number_is 2 2 dd day g in
-      let first = cut_at 4 yyyy (mm ++ dd) (omega (arith, y.low, y.high)) in
-      let second = cut_at 2 mm dd (omega (arith, m.low, m.high)) in
+      let first = cut_at 4 yyyy (mm ++ dd) (omega arith) in
+      let second = cut_at 2 mm dd (omega arith) in
       let long : length (yyyy ++ (mm ++ dd)) ≡ 8 =
-      omega (arith, length-append yyyy (mm ++ dd), length-append mm dd, y.low, y.high, m.low, m.high, d.low, d.high)
+      omega (arith, length-append yyyy (mm ++ dd), length-append mm dd)
       in
-      grind (arith, drop-drop)
+      grind arith
 
   reads : (text : List ℕ) (form : Form) (said : Option Days) → IsPeriod today by text form said → Reads form text said
   reads text form said (CountOfUnits digits count letter unit e u) =
@@ -348,7 +348,7 @@ module _ (today by : ℤ) where
   pub one_form : (text : List ℕ) (f g : Form) (d e : Option Days) → IsPeriod today by text f d
       → IsPeriod today by text g e → (f ≡ g) × (d ≡ e)
   one_form text f g d e h k =
-      grind (arith, same_some, same_form, reads)
+      grind (arith, same_form, reads)
 
   pub named_law : (text : List ℕ) (days : Days) → (named text ≡ Ok days) ↔ NamesDays today by text days
   named_law text days = (read_names _ _, names_read _ _)

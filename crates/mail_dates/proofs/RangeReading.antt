@@ -3,17 +3,15 @@ use Rattle.mail_dates.proofs.Words.{◌≡◌, ℕ, Bool, true, false, cond, Lis
 use Rattle.contract_words.specs.Answers.{◌>>=◌ as ◌>>=ᵣ◌}
 use Rattle.std.specs.List.{list_any}
 use Rattle.std.specs.Char.{is_ascii_digit, is_ascii_alphabetic}
-use Rattle.std.proofs.lemmas.Bool.{or_parts, or_from}
 use Rattle.std.proofs.lemmas.List.Folds.{list_any-append}
 use Rattle.std.proofs.lemmas.List.Splits.{join_with_byte-slice_split}
 use Rattle.mail_dates.specs.declared.days.Days.{Days}
 use Rattle.mail_dates.specs.declared.period.Unit.{Unit}
-use Rattle.mail_dates.specs.Periods.{unit_of}
 use Rattle.mail_dates.specs.Ranges.{named_days_by, range_of_days, range_of_period_by, range_between_by, range_from_by}
 use Rattle.mail_dates.specs.PeriodGrammar.{NamesDays, Form, IsPeriod, CountOfUnits, YearMonthDay, Year, Month, DayMonth, MonthDay, IsLongCount, DigitsAndUnit}
 use Rattle.mail_dates.specs.RangeGrammar.{day_at, IsRange, InPeriod, Between, Until, Since, IsEnd, NoEnd, NamedEnd, HasLongCount, AsPeriod, AsEnd, AsStart, IsFault, TooLong, NoRange}
 use Rattle.mail_dates.proofs.Cuts.{split_front}
-use Rattle.mail_dates.proofs.PeriodForms.{number_is, name_is, day_is, unit_letter}
+use Rattle.mail_dates.proofs.PeriodForms.{name_is}
 use Rattle.mail_dates.proofs.PeriodReading.{names_read, read_names, long_read, read_long}
 
 -- ---- texts without a dash
@@ -24,13 +22,13 @@ Free text = list_any is_dash text ≡ false
 split_none : (text : List ℕ) → Free text → slice_split is_dash text ≡ text ∷ []
 split_none [] h = refl
 split_none (b ∷ bs) h =
-    grind (arith, or_parts, split_none bs)
+    grind (arith, split_none bs)
 
 split_at : (text rest : List ℕ) → Free text
     → slice_split is_dash (text ++ 0x2D ∷ rest) ≡ text ∷ slice_split is_dash rest
 split_at [] rest h = refl
 split_at (b ∷ bs) rest h =
-    grind (arith, or_parts, split_at bs rest)
+    grind (arith, split_at bs rest)
 
 alone : (text part : List ℕ) → slice_split is_dash text ≡ part ∷ [] → text ≡ part
 alone text part e = cc (join_with_byte-slice_split 0x2D text)
@@ -46,7 +44,7 @@ first_free (b ∷ bs) first rest e = go (is_dash b) refl (split_front _ bs) (fir
         → (part : List ℕ) × (parts : List (List ℕ)) × (slice_split is_dash bs ≡ part ∷ parts)
         → ((part : List ℕ) (parts : List (List ℕ)) → slice_split is_dash bs ≡ part ∷ parts → Free part)
         → cond t ([] ∷ slice_split is_dash bs) (onto_first b (slice_split is_dash bs)) ≡ first ∷ rest → Free first
-    go t h f r k = grind (arith, or_from)
+    go t h f r k = grind arith
 
 append_free : (xs ys : List ℕ) → Free xs → Free ys → Free (xs ++ ys)
 append_free xs ys h k = grind (arith, list_any-append)
@@ -60,33 +58,30 @@ letters_free [] h = refl
 letters_free (x ∷ xs) h = grind (arith, nat_tests, letters_free xs)
 
 number_free : (least most : ℕ) (text : List ℕ) (n : ℕ) → number_in least most text ≡ Some n → Free text
-number_free least most text n e = grind (arith, number_is, digits_free)
+number_free least most text n e = grind (arith, digits_free)
 
 name_free : (text : List ℕ) (month : ℕ) → month_of text ≡ Some month → Free text
 name_free text month e = grind (arith, name_is, letters_free)
 
-letter_free : (letter : ℕ) (unit : Unit) → unit_of letter ≡ Some unit → Free (letter ∷ [])
-letter_free letter unit e = grind (arith, letters_free, unit_letter)
-
 period_free : (today by : ℤ) (text : List ℕ) (form : Form) (said : Option Days) → IsPeriod today by text form said
     → Free text
 period_free today by text form said (CountOfUnits digits count letter unit e u) =
-    grind (arith, append_free, number_free, letter_free)
+    grind (arith, append_free, number_free)
 period_free today by text form said (YearMonthDay yyyy mm dd year month day e f g) =
     grind (arith, append_free, number_free)
 period_free today by text form said (Year yyyy year e) = number_free 4 4 yyyy year e
 period_free today by text form said (Month name month e) = name_free name month e
 period_free today by text form said (DayMonth digits name day month d e) =
-    grind (arith, day_is, append_free, digits_free, name_free)
+    grind (arith, append_free, digits_free, name_free)
 period_free today by text form said (MonthDay name digits month day e d) =
-    grind (arith, day_is, append_free, name_free, digits_free)
+    grind (arith, append_free, name_free, digits_free)
 
 names_free : (today by : ℤ) (text : List ℕ) (days : Days) → NamesDays today by text days → Free text
 names_free today by text days n = grind (arith, period_free)
 
 long_free : (text : List ℕ) → IsLongCount text → Free text
 long_free text (DigitsAndUnit digits letter unit many h u) =
-    grind (arith, append_free, digits_free, letter_free)
+    grind (arith, append_free, digits_free)
 
 -- ---- each range is read
 
@@ -251,7 +246,7 @@ module _ (now : ℕ) where
 
   long_end : (start end : List ℕ) → IsLongCount end → TooLongBetween start end
   long_end start [] long = none_long long
-  long_end start (b ∷ bs) long = grind (arith, with_end, long_read)
+  long_end start (b ∷ bs) long = grind (arith, long_read)
 
   long_start : (start end : List ℕ) → IsLongCount start → IsEnd now end → TooLongBetween start end
   long_start [] end long h = none_long long
@@ -260,7 +255,7 @@ module _ (now : ℕ) where
       after end' last (names_read (day_at now) (day_at now) end' last l)
     where
       after : (end : List ℕ) (last : Days) → days_of end ≡ Ok last → TooLongBetween (a ∷ more) end
-      after end last h = grind (arith, none_names, long_read)
+      after end last h = grind (arith, long_read)
 
   end_free : (end : List ℕ) → IsEnd now end → Free end
   end_free end NoEnd = refl

@@ -23,4 +23,4 @@ pub use Rattle.std.proofs.lemmas.Bool.Decides.{nat_tests}
 pub use Rattle.std.proofs.lemmas.Int.{ints, to_z-of_z}
 pub use Rattle.std.proofs.lemmas.List.{take_rest}
 pub use Rattle.std.specs.List.{list_all, onto_first, position, position_or_len, slice_split}
-pub use Rattle.std.specs.Prelude.{IsTrue, codes, if◌then◌else◌, int_le, option_map, unwrap_or, ◌↔◌}
+pub use Rattle.std.specs.Prelude.{IsTrue, codes, if◌then◌else◌, int_le, option_map, ◌↔◌}

@@ -1,5 +1,5 @@
 -- `date_of_parts` returns the second that the parts say, because each step of its sum fits into 64 bits.
-use Rattle.mail_dates.proofs.Words.{◌≡◌, ◌<◌, ◌^◌, ℕ, ℤ, pos, ◌+ℤ◌, ◌-ℤ◌, ◌*ℤ◌, of_z, to_z, w16, w32, w64, FitsSigned, arith, rules, refl, ◌∙◌, List, Some, ints, IsEpochDay, day_number, month_of, start_of_day, number_in, year_of, time_of, date_of_parts_by}
+use Rattle.mail_dates.proofs.Words.{◌≡◌, ◌<◌, ◌^◌, ℕ, ℤ, pos, ◌+ℤ◌, ◌-ℤ◌, ◌*ℤ◌, of_z, to_z, w16, w32, w64, FitsSigned, arith, refl, ◌∙◌, List, Some, ints, IsEpochDay, day_number, month_of, start_of_day, number_in, year_of, time_of, date_of_parts_by}
 use Rattle.mail_dates.proofs.header_date.date_of_parts.Goals as goal
 
 -- the date of parts that can be read
@@ -21,4 +21,4 @@ returns-in_ok-date-in-Some-Some-Some-Some c =
     let parts = c.in-Some-Some-Some-Some in
     let found = c.in_ok-date-in-Some-Some-Some-Some in
     let year : to_z w16 parts.year ≡ pos parts.year = grind (arith, ints) in
-    grind (arith, fits, rules, read)
+    grind (arith, fits, read)

@@ -13,4 +13,4 @@ returns-in-Some-cut c =
     let four = split_four is_dot c.args.text.now c.in-Some.since.now c.in-Some.rest.now c.in_ok-between.between.now
     c.in_ok-between.until.now c.in-Some-cut.field-0.0.now c.in-Some-cut.field-0.1.now c.in-Some.ensures
     c.in_ok-between.ensures c.in-Some-cut.ensures in
-    grind (arith, too_many)
+    grind arith

@@ -18,4 +18,4 @@ returns-in-Some-Some-Some c =
     let year : to_z w16 parts.year ≡ pos parts.year = let small = parts.ensures.bound in omega (arith, ints) in
     let day : Some parts.day ≡ number_in 2 2 (drop 6 c.args.text.now) =
     rw (take_rest c.args.text.now 6) at parts.ensures''.value in
-    grind (arith, read)
+    grind arith

@@ -1,5 +1,5 @@
 -- `next_token` returns the first part that isn't empty, because an empty part between two gaps isn't a token.
-use Rattle.mail_dates.proofs.Words.{◌≡◌, ◌==◌, ℕ, List, [], ◌∷◌, true, false, length, refl, ◌∙◌, arith, nat_tests, slice_split, date_tokens, is_gap, with_first}
+use Rattle.mail_dates.proofs.Words.{◌≡◌, ◌==◌, ℕ, List, [], ◌∷◌, true, false, length, refl, ◌∙◌, arith, slice_split, date_tokens, is_gap, with_first}
 use Rattle.mail_dates.proofs.token.next_token.Goals as goal
 
 -- an empty part isn't a token
@@ -15,7 +15,7 @@ found text front back h h2 = grind arith
 
 last : (text : List ℕ) → slice_split is_gap text ≡ text ∷ [] → date_tokens text ≡ with_first text []
 unfolding date_tokens
-last text h = grind (arith, nat_tests)
+last text h = grind arith
 
 pub returns-then-not-is_empty-clause-tokens : goal.returns-then-not-is_empty-clause-tokens
 returns-then-not-is_empty-clause-tokens c =

@@ -22,7 +22,7 @@ loop-year-preserved c =
     let year : ℤ = to_z w16 c.loop-year.year-bits in
     let low = at_least year c.loop-year-test.true in
     let missed : begin_by (to_z w32 (of_z w32 c.args.by)) (days_in_by day_number c.args.self year) ≡ false =
-    grind (arith, to_z, of_z) in
+    grind arith in
     search_next _ _ _ _ c.loop-year.invariant low missed
     (let high = c.loop-year.invariant.high in omega (arith, ints))
 
