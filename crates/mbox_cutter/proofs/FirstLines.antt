@@ -51,7 +51,7 @@ length_before_feed-not_found h f = grind (arith, length_before_feed-none)
 
 pub first_length-le : (b : List ℕ) → first_length b ≤ length b
 unfolding first_length
-first_length-le b = grind (arith, length_before_feed-le, nat_tests)
+first_length-le b = grind (arith, length_before_feed-le)
 
 pub first_length-positive : (b : List ℕ) → 0 < length b → 0 < first_length b
 unfolding first_length
@@ -63,28 +63,21 @@ line_end-short b n e = grind (arith, nat_tests)
 
 pub line_end-within : (b : List ℕ) (n : ℕ) → Some n ≡ line_end_of b → n ≤ length b
 unfolding line_end_of
-line_end-within b n e = grind (arith, length_before_feed-le, nat_tests)
+line_end-within b n e = grind (arith, length_before_feed-le)
 
 pub line_end-open : (b : List ℕ) → None ≡ line_end_of b → length b ≤ 65536
 unfolding line_end_of
-line_end-open b e = grind (arith, length_before_feed-le, nat_tests)
+line_end-open b e = grind arith
 
 pub line_end-whole : (b : List ℕ) → None ≡ line_end_of b → first_length b ≡ length b
 unfolding line_end_of first_length
-line_end-whole b e = grind (arith, length_before_feed-le, nat_tests)
+line_end-whole b e = grind arith
 
 -- bytes that follow don't change the end of a line
 pub line_end-more : (b more : List ℕ) (n : ℕ) → Some n ≡ line_end_of b → n ≡ first_length (b ++ more)
 unfolding line_end_of first_length
 line_end-more b more n e =
-    grind (
-      arith,
-      length_before_feed-le,
-      length-append,
-      length_before_feed-append_in,
-      length_before_feed-append_out,
-      nat_tests,
-    )
+    grind (arith, length_before_feed-le, length-append, length_before_feed-append_in, length_before_feed-append_out)
 
 pub line_end-positive : (b : List ℕ) (n : ℕ) → Some n ≡ line_end_of b → 0 < n
 unfolding line_end_of

@@ -1,5 +1,5 @@
 -- The steps of a cutter, stated for bytes that may be known or not.
-use Rattle.mbox_cutter.proofs.Words.{still_known, IsSome, ◌≡◌, ℕ, ◌+◌, ◌<◌, List, Option, Some, IfSome, take, arith, option_map, CutFault, ArchiveTooLong, Phase, Between, first_length, ArchiveEvent, coming_of, TakesEvent, TakesKnown, IsRefusalToCome, CutterPlace, FailsFirst, coming_at, resume}
+use Rattle.mbox_cutter.proofs.Words.{still_known, ◌≡◌, ℕ, ◌+◌, ◌<◌, List, Option, Some, IfSome, take, arith, option_map, Phase, Between, first_length, ArchiveEvent, coming_of, TakesEvent, TakesKnown, CutterPlace, coming_at, resume}
 use Rattle.mbox_cutter.proofs.Steps.{resume-beginning}
 
 -- ---- facts of known values
@@ -13,11 +13,6 @@ at_same o o' P h h2 = grind arith
 
 pub both : {A : Type 0} (o : Option A) (P Q : A → Type 0) → IfSome o P → IfSome o Q → IfSome o (λ x. P x × Q x)
 both o P Q h h2 = grind arith
-
--- what was known up to a call is known no longer than up to an earlier one
-pub still-on : {A B C : Type 0} (o : Option A) (mid : Option B) (new : Option C) (P : A → Type 0) →
-    (IsSome new → IsSome mid) → IfSome (still_known o mid) P → IfSome (still_known o new) P
-still-on o mid new P h p = grind arith
 
 -- ---- what comes, if P holds of the bytes to come
 
@@ -33,14 +28,6 @@ pub known-step : (bytes after last : Option (List ℕ)) (old new : CutterPlace) 
     (resume new.phase new.offset new.most (left b))) →
     TakesKnown event (still_known (coming_at old bytes) last) (coming_at new after)
 known-step bytes after last old new was event P left is h leaves each = grind (arith, both)
-
--- the first line isn't found
-pub known-fault : (bytes last : Option (List ℕ)) (p : CutterPlace) (was : Phase) (fault : CutFault) →
-    p.phase ≡ was → FailsFirst p.offset p.most (still_known bytes last) fault →
-    ((b : List ℕ) → p.most < p.offset + first_length b → IsRefusalToCome ArchiveTooLong (resume was p.offset p.most b))
-    →
-    IfSome (still_known (coming_at p bytes) last) (IsRefusalToCome fault)
-known-fault bytes last p was fault h h2 h3 = grind (arith, each_some)
 
 -- what comes at the beginning
 pub known-beginning : (bytes reader : Option (List ℕ)) (most : ℕ) → reader ≡ bytes

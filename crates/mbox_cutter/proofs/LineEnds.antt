@@ -1,5 +1,5 @@
 -- The end of a line whose beginning was searched before: the bytes that were searched have no LF.
-use Rattle.mbox_cutter.proofs.Words.{◌≡◌, ◌+◌, ◌<◌, ◌≤◌, ◌==◌, ℕ, zero, suc, List, [], ◌∷◌, Some, None, length, take, drop, arith, min, nat_lt, nat_tests, length-take, length-drop, IsFirstByte, is_byte, length_before_feed, line_end_of}
+use Rattle.mbox_cutter.proofs.Words.{◌≡◌, ◌+◌, ◌<◌, ◌≤◌, ◌==◌, ℕ, zero, suc, List, [], ◌∷◌, Some, None, length, take, drop, arith, min, nat_lt, length-take, length-drop, IsFirstByte, is_byte, length_before_feed, line_end_of}
 use Rattle.mbox_cutter.proofs.FirstLines.{length_before_feed-le, length_before_feed-take, length_before_feed-found, length_before_feed-not_found}
 
 before_feed-drop : (n : ℕ) (b : List ℕ) → n ≤ length_before_feed b → length_before_feed b
@@ -47,7 +47,7 @@ pub after-full : (b rest : List ℕ) (n s : ℕ) → n ≡ min (length b) 65537 
 unfolding line_end_of
 after-full b rest n s e free few is h long =
     let r = none-before b rest n s e free few is h in
-    grind (arith, nat_lt, nat_tests)
+    grind arith
 
 pub after-open : (b rest : List ℕ) (n s : ℕ) → n ≡ min (length b) 65537 → s ≤ length_before_feed b → s ≤ 65536 → rest
     ≡ drop s (take n b)
@@ -55,4 +55,4 @@ pub after-open : (b rest : List ℕ) (n s : ℕ) → n ≡ min (length b) 65537 
 unfolding line_end_of
 after-open b rest n s e free few is h short =
     let r = none-before b rest n s e free few is h in
-    grind (arith, length-take, length_before_feed-le, nat_lt)
+    grind (arith, length-take, length_before_feed-le)

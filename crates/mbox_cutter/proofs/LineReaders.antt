@@ -1,12 +1,10 @@
 -- How the calls of a reader change the bytes to come.
-use Rattle.mbox_cutter.proofs.Words.{still_known, IsSome, ◌≡◌, ℕ, ◌+◌, ◌-◌, ◌<◌, ◌≤◌, Bool, true, false, Result, List, ◌++◌, Option, Some, None, IfSome, IfOk, length, take, drop, append-nil, ap, ◌∙◌, arith, append_assoc, ReadConsumes, IsAtEnd, prepend_known, take-append-add, take-append-le, length-take-le, drop-append-le, Ghosts, line_end_of, first_length, BytesAhead, ReadsAfter, ReadsOn, Extends, TakesFirstLine}
-use Rattle.std.specs.Result.{IsErr, is_err}
+use Rattle.mbox_cutter.proofs.Words.{still_known, IsSome, ◌≡◌, ℕ, ◌+◌, ◌-◌, ◌<◌, ◌≤◌, Bool, false, Result, List, ◌++◌, Option, Some, None, IfSome, IfOk, length, take, drop, append-nil, ap, ◌∙◌, arith, append_assoc, ReadConsumes, IsAtEnd, prepend_known, take-append-add, take-append-le, length-take-le, drop-append-le, Ghosts, line_end_of, first_length, BytesAhead, ReadsAfter, ReadsOn, Extends, TakesFirstLine}
 use Rattle.std.proofs.lemmas.List.{length-append}
 use borrow.Rule.Slice.PartMut.{put_mid}
 use Rattle.mbox_cutter.specs.declared.device.DeviceFault.{DeviceFault}
 use Rattle.mbox_cutter.proofs.FirstLines.{line_end-more, line_end-whole}
 use Rattle.mbox_cutter.proofs.Parts.{take_front}
-use Rattle.mbox_cutter.proofs.Sources.{ReadsSource-join}
 
 take_after : (front into post : List ℕ) (held n : ℕ) → length front ≡ held → n ≤ length into
     → take (held + n) (front ++ (into ++ post)) ≡ front ++ take n into
@@ -47,21 +45,12 @@ length-Extends a b h = omega (arith, ap length h.1, length-append a h.0)
 pub take-Extends : (n : ℕ) (a b : List ℕ) → n ≤ length a → Extends a b → take n b ≡ take n a
 take-Extends n a b fits h = grind (arith, take-append-le)
 
-join_known : {B C : Type 0} (a b c : Option (List ℕ)) (mid : Option B) (new : Option C) → (IsSome new → IsSome mid)
-    → IfSome (still_known a mid) (λ x. b ≡ Some x) → IfSome (still_known b new) (λ x. c ≡ Some x)
-    → IfSome (still_known a new) (λ x. c ≡ Some x)
-join_known a b c mid new h h2 h3 = grind arith
-
-pub ReadsOn-failed : {S T E : Type 0} (g : Ghosts S) (r : Result T E) (old new : BytesAhead S) → IsErr r
-    → ReadsOn g true old new → ReadsOn g (is_err r) old new
-ReadsOn-failed g r old new h h2 = grind arith
-
 -- one read after another
 pub ReadsOn-join : {S : Type 0} (g : Ghosts S) (failed : Bool) (a b c : BytesAhead S) → ReadsOn g false a b
     → ReadsOn g failed b c → ReadsOn g failed a c
 ReadsOn-join g failed a b c h k = record {
-  source = grind (arith, ReadsSource-join);
-  bytes = grind (arith, join_known);
+  source = grind arith;
+  bytes = grind arith;
   keeps = Extends-join a.unread b.unread c.unread h.keeps k.keeps;
 }
 

@@ -1,6 +1,6 @@
 -- The lines of bytes join to the bytes, and each ends where a line does.
 use Rattle.mbox_cutter.proofs.Words.{◌≡◌, None, Some, ℕ, zero, suc, ◌-◌, ◌<◌, ◌≤◌, ◌==◌, List, [], ◌∷◌, ◌++◌, length, take, drop, refl, ap, ◌∙◌, subst, arith, concat, nat_tests, length-drop, length-take-le, take-append-drop, take_all, line_end_of, length_before_feed, first_length, lines, IsLine, AreCut, AreLines}
-use Rattle.mbox_cutter.proofs.FirstLines.{line_end-within, line_end-whole, length_before_feed-le, length_before_feed-take, first_length-le, first_length-positive}
+use Rattle.mbox_cutter.proofs.FirstLines.{line_end-within, line_end-whole, length_before_feed-le, length_before_feed-take, first_length-le}
 use Rattle.mbox_cutter.proofs.LineLists.{by_lines, lines-cons, lines-nil}
 
 length_before_feed-drop : (k : ℕ) (b : List ℕ) → k ≤ length_before_feed b → length_before_feed (drop k b)
@@ -14,12 +14,12 @@ length_before_feed-drop (suc k) (x ∷ xs) h =
 pub first_line-IsLine : (b : List ℕ) → 0 < length b → IsLine (take (first_length b) b)
 unfolding first_length
 first_line-IsLine b h =
-    grind (arith, first_length-le, first_length-positive, length-take-le, length_before_feed-take, nat_tests)
+    grind (arith, first_length-le, length-take-le, length_before_feed-take)
 
 open_line : (b : List ℕ) → first_length b ≤ length_before_feed b → first_length b < length b → (first_length b ≡ 65536)
     × (65536 < length_before_feed b)
 unfolding first_length
-open_line b h below = grind (arith, nat_tests)
+open_line b h below = grind arith
 
 -- if the first line has no LF and others follow it, it is full and no LF follows
 first_line-full : (b : List ℕ) → 0 < length (drop (first_length b) b) → length_before_feed (take (first_length b) b)
@@ -27,16 +27,7 @@ first_line-full : (b : List ℕ) → 0 < length (drop (first_length b) b) → le
     (length (take (first_length b) b) ≡ 65536)
     × (0 < length_before_feed (take (first_length (drop (first_length b) b)) (drop (first_length b) b)))
 first_line-full b some no_feed =
-    grind (
-      arith,
-      first_length-le,
-      length-take-le,
-      length-drop,
-      length_before_feed-take,
-      open_line,
-      length_before_feed-drop,
-      first_length-positive,
-    )
+    grind (arith, length-take-le, length-drop, length_before_feed-take, open_line, length_before_feed-drop)
 
 joined_cut : (l rest : List ℕ) → IsLine l
     → (0 < length rest → length_before_feed l ≡ length l → (length l ≡ 65536)
@@ -63,5 +54,5 @@ line_end-IsLine b n e =
 -- if it isn't known, and no byte is to come, the bytes are a line
 pub open_end-IsLine : (b : List ℕ) → None ≡ line_end_of b → 0 < length b → IsLine b
 open_end-IsLine b e h =
-    subst IsLine (ap (λ (n : ℕ). take n b) (line_end-whole b e) ∙ take_all (length b) b (omega arith))
+    subst IsLine (cc (line_end-whole b e, take_all (length b) b (omega arith)))
     (first_line-IsLine b h)

@@ -1,5 +1,5 @@
 -- A list of lines that joins to the bytes is the list of their lines, because each first line is the first line.
-use Rattle.mbox_cutter.proofs.Words.{◌≡◌, ℕ, zero, suc, ◌+◌, ◌<◌, ◌≤◌, ◌⊎◌, inl, inr, ◌==◌, List, [], ◌∷◌, ◌++◌, length, append-nil, refl, ap, sym, ◌∙◌, arith, concat, nat_tests, take-append_seam, drop-append_seam, length_before_feed, first_length, lines, IsLine, AreCut, AreLines}
+use Rattle.mbox_cutter.proofs.Words.{◌≡◌, ℕ, ◌+◌, ◌<◌, ◌≤◌, ◌⊎◌, ◌==◌, List, [], ◌∷◌, ◌++◌, length, append-nil, ap, sym, ◌∙◌, arith, concat, take-append_seam, drop-append_seam, length_before_feed, first_length, lines, IsLine, AreCut, AreLines}
 use Rattle.std.proofs.lemmas.List.{length-append}
 use Rattle.mbox_cutter.proofs.FirstLines.{length_before_feed-le, length_before_feed-append_in, length_before_feed-append_out}
 use Rattle.mbox_cutter.proofs.LineLists.{lines-cons, lines-nil}
@@ -13,28 +13,22 @@ length_before_feed-append-positive (x ∷ xs) b h =
 first-closed : (l rest : List ℕ) → IsLine l → length_before_feed l < length l → first_length (l ++ rest) ≡ length l
 unfolding first_length
 first-closed l rest is h =
-    grind (arith, length_before_feed-append_in, length-append, nat_tests)
+    grind (arith, length_before_feed-append_in, length-append)
 
 -- a line of 65,536 bytes that no LF follows
 first-full : (l rest : List ℕ) → length_before_feed l ≡ length l → length l ≡ 65536 → 0 < length_before_feed rest
     → first_length (l ++ rest) ≡ length l
 unfolding first_length
 first-full l rest e n h =
-    grind (arith, length_before_feed-append_out, nat_tests)
+    grind (arith, length_before_feed-append_out)
 
 -- the last line, without LF
 first-last : (l : List ℕ) → IsLine l → length_before_feed l ≡ length l → first_length l ≡ length l
 unfolding first_length
-first-last l is e = grind (arith, nat_tests)
-
-le_cases : (a b : ℕ) → a ≤ b → (a < b) ⊎ (a ≡ b)
-le_cases zero zero h = inr refl
-le_cases zero (suc b) h = inl (omega arith)
-le_cases (suc a) zero h = absurd (omega arith)
-le_cases (suc a) (suc b) h = grind (arith, le_cases a b)
+first-last l is e = grind arith
 
 either-way : (l : List ℕ) → (length_before_feed l < length l) ⊎ (length_before_feed l ≡ length l)
-either-way l = grind (arith, le_cases, length_before_feed-le)
+either-way l = grind (arith, length_before_feed-le)
 
 first-is : (l : List ℕ) (ls : List (List ℕ)) → AreCut (l ∷ ls) → first_length (l ++ concat ls) ≡ length l
 first-is l ls h = grind (
@@ -43,7 +37,6 @@ first-is l ls h = grind (
   first-closed,
   append-nil,
   first-last,
-  concat,
   first-full,
   length_before_feed-append-positive,
 )

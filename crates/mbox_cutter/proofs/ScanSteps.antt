@@ -1,9 +1,9 @@
 -- How the calls in a step change a scan, and each way in which a step can end.
-use Rattle.mbox_cutter.proofs.Words.{still_known, IsSome, known_until, ◌≡◌, ℕ, ◌+◌, ◌-◌, ◌<◌, ◌≤◌, Bool, true, false, List, Option, Some, Result, Ok, Err, IfSome, IfOk, length, take, drop, sym, ◌∙◌, subst, arith, IsAtEnd, length-take-le, Ghosts, CutFault, NotAnMbox, ArchiveTooLong, Phase, Between, Inside, Ended, first_length, is_empty, IsLine, is_separator, Line, IsRefusalToCome, TakesEvent, is_device, CutterPlace, Moves, HasLine, known_bytes, ReadsOn, resume, closes_at, coming_events, place_of, event_with_line, IsPlace, IsWithin, ReadsSource, IsScan, IsFresh, FindsLine, Passes, Steps}
+use Rattle.mbox_cutter.proofs.Words.{still_known, IsSome, known_until, ◌≡◌, ℕ, ◌+◌, ◌-◌, ◌<◌, ◌≤◌, Bool, true, false, List, Option, Some, Result, Ok, Err, IfSome, IfOk, length, take, drop, sym, ◌∙◌, subst, arith, IsAtEnd, length-take-le, Ghosts, CutFault, NotAnMbox, Phase, Between, Inside, Ended, first_length, is_empty, IsLine, is_separator, Line, IsRefusalToCome, TakesEvent, is_device, CutterPlace, Moves, HasLine, known_bytes, ReadsOn, resume, closes_at, coming_events, place_of, event_with_line, IsPlace, IsWithin, ReadsSource, IsScan, IsFresh, FindsLine, Passes, Steps}
 use Rattle.mbox_cutter.specs.declared.event.Event.{Event}
 use Rattle.mbox_cutter.specs.declared.event.Event.TheVariants as event
 use Rattle.mbox_cutter.specs.declared.scan.Scan.{Scan}
-use Rattle.mbox_cutter.proofs.KnownSteps.{at_same, both, still-on, IsFirst, known-step, known-fault}
+use Rattle.mbox_cutter.proofs.KnownSteps.{at_same, both, IsFirst, known-step}
 use Rattle.mbox_cutter.proofs.Sources.{ReadsSource-none, ReadsSource-join}
 use Rattle.mbox_cutter.proofs.Steps.{step-done, step-start, step-empty, step-refused, step-long, step-end, step-line, step-open, step-closed, step-long_inside, ended-stays}
 use Rattle.mbox_cutter.proofs.LineReaders.{known_taken, line_taken, length-Extends, take-Extends, ReadsOn-join}
@@ -40,7 +40,7 @@ pub record Taken {S : Type 0} (g : Ghosts S) (old new : Scan S) (n : ℕ) (phase
 module _ {S : Type 0} (g : Ghosts S) (old mid : Scan S) (n : ℕ) (line : List ℕ) where
   pub found : FindsLine g old (Ok n) mid → 0 < n → line ≡ take n mid.reader.unread → Found g old mid n line
   found f some is =
-      let within : n ≤ length mid.reader.unread = omega (arith, f.first.within) in
+      let within : n ≤ length mid.reader.unread = omega arith in
       record {
         some = some;
         place = f.place;
@@ -49,8 +49,7 @@ module _ {S : Type 0} (g : Ghosts S) (old mid : Scan S) (n : ℕ) (line : List �
             f.first.first
             (at_same (known_until g.rest old.reader mid.reader) (known_bytes g.rest mid.reader) (λ b. line ≡ take n b)
             f.reads.bytes
-            (subst (λ (l : List ℕ). IfSome (known_bytes g.rest mid.reader) (λ b. l ≡ take n b)) (sym is)
-            (line_taken n mid.reader.unread (g.rest mid.reader.source.now) within)));
+            (rw is (line_taken n mid.reader.unread (g.rest mid.reader.source.now) within)));
         fits = f.fits;
         within = within;
         is = sym is;
@@ -64,20 +63,12 @@ module _ {S : Type 0} (g : Ghosts S) (old mid : Scan S) (n : ℕ) (line : List �
     some = h.some;
     place = same ∙ h.place;
     reads = ReadsOn-join g false old.reader mid.reader far.reader h.reads r;
-    first = grind (arith, still-on);
+    first = grind arith;
     fits = h.fits;
     within = grind (arith, length-Extends);
     is = grind (arith, take-Extends);
     is_line = h.is_line;
   }
-
-  -- what `closes` returns, in terms of the bytes at the call
-  closes-far : (far : Scan S) (is wanted : Bool) →
-      IfSome (known_until g.rest old.reader mid.reader) (λ b. known_bytes g.rest mid.reader ≡ Some b) →
-      (IsSome (g.rest far.reader.source.now) → IsSome (g.rest mid.reader.source.now)) →
-      IfSome (known_until g.rest mid.reader far.reader) (λ b. is ≡ closes_at n b) → is ≡ wanted →
-      IfSome (known_until g.rest old.reader far.reader) (λ b. wanted ≡ closes_at n b)
-  closes-far far is wanted same still h e = grind (arith, at_same)
 
   pub closes-known : (far new : Scan S) (is wanted : Bool) → new.reader.source ≡ far.reader.source →
       IfSome (known_until g.rest old.reader mid.reader) (λ b. known_bytes g.rest mid.reader ≡ Some b) →
@@ -85,7 +76,7 @@ module _ {S : Type 0} (g : Ghosts S) (old mid : Scan S) (n : ℕ) (line : List �
       IfSome (known_until g.rest mid.reader far.reader) (λ b. is ≡ closes_at n b) → is ≡ wanted →
       IfSome (known_until g.rest old.reader new.reader) (λ b. wanted ≡ closes_at n b)
   closes-known far new is wanted source same still h e =
-      grind (arith, closes-far)
+      grind arith
 
   pub taken : (new : Scan S) (phase : Phase) → Found g old mid n line → Passes n phase mid new
       → Taken g old new n phase line
@@ -142,7 +133,7 @@ module _ {S : Type 0} (g : Ghosts S) (old new : Scan S) (n : ℕ) (line : List �
 
     pub line-steps : is_empty line ≡ false → Taken g old new n (Inside start (size + n)) line
         → Steps g old (Ok event.Line) new
-    line-steps full t = grind (arith, text-steps, step-line)
+    line-steps full t = grind (arith, step-line)
 
     -- an empty line that doesn't end the message
     pub open-steps : is_empty line ≡ true → IfSome (known_until g.rest old.reader new.reader)
@@ -195,20 +186,13 @@ module _ {S : Type 0} (g : Ghosts S) (old mid : Scan S) (fault : CutFault) (was 
       → Steps g old (Err fault) mid
   fails-steps not_ended reads same refuses fresh = grind arith
 
-  -- no line was found
-  unfound-steps : (before : Phase) → old.phase ≡ before → (old.phase ≡ Ended → ⊥)
-      → ((b : List ℕ) → old.most < old.offset + first_length b
-      → IsRefusalToCome ArchiveTooLong (resume before old.offset old.most b)) →
-      FindsLine g old (Err fault) mid → Steps g old (Err fault) mid
-  unfound-steps before is not_ended long f = grind (arith, fails-steps, known-fault)
-
   pub fault-steps : old.phase ≡ Between → FindsLine g old (Err fault) mid → Steps g old (Err fault) mid
-  fault-steps between f = grind (arith, unfound-steps, step-long)
+  fault-steps between f = grind (arith, step-long)
 
   pub fault_inside-steps : (start size : ℕ) → old.phase ≡ Inside start size → FindsLine g old (Err fault) mid
       → Steps g old (Err fault) mid
   fault_inside-steps start size inside f =
-      grind (arith, unfound-steps, step-long_inside)
+      grind (arith, step-long_inside)
 
 -- the first line that isn't empty isn't a separator
 pub refused-steps : {S : Type 0} (g : Ghosts S) (old mid : Scan S) (n : ℕ) (line : List ℕ) → IsScan g.rest old

@@ -8,7 +8,7 @@ pub Stays-join : {S : Type 0} (g : Ghosts S) (a b c : S) → Stays g a b → Sta
 Stays-join g a b c h k = grind arith
 
 pub ReadsSource-none : {S : Type 0} (g : Ghosts S) (s : MutBor S) → ReadsSource g false s s
-ReadsSource-none g s = grind (arith, Stays-self)
+ReadsSource-none g s = grind arith
 
 pub ReadsSource-join : {S : Type 0} (g : Ghosts S) (failed : Bool) (a b c : MutBor S) → ReadsSource g false a b
     → ReadsSource g failed b c → ReadsSource g failed a c

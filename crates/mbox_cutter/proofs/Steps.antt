@@ -1,33 +1,8 @@
 -- Each step of a cutter takes the first of what still comes, line by line.
-use Rattle.mbox_cutter.proofs.Words.{◌≡◌, ℕ, ◌+◌, ◌-◌, ◌<◌, ◌≤◌, Bool, true, false, cond, ◌||◌, nat_eq, nat_lt, nat_le, List, [], ◌∷◌, Option, Some, None, length, take, drop, refl, ap, sym, ◌∙◌, arith, add_assoc, zero-add, nat_tests, length-drop, length-take-le, option_map_or, CutFault, NotAnMbox, ArchiveTooLong, Between, Inside, Ended, lines, first_length, is_empty, is_separator, Message, messages, total, ArchiveEvent, Start, Line, End, Done, events_of, events, first_full_end, archive_refusal, ComingEvents, coming_of, TakesEvent, IsRefusalToCome, closes_at, events_between, events_inside, refusal_between, too_long, resume}
+use Rattle.mbox_cutter.proofs.Words.{◌≡◌, ℕ, ◌+◌, ◌-◌, ◌<◌, ◌≤◌, true, false, ◌||◌, nat_eq, List, [], ◌∷◌, Option, length, take, drop, refl, ap, ◌∙◌, arith, zero-add, length-drop, length-take-le, CutFault, NotAnMbox, ArchiveTooLong, Between, Inside, Ended, lines, first_length, is_empty, is_separator, messages, ArchiveEvent, Start, Line, End, Done, events, archive_refusal, ComingEvents, coming_of, TakesEvent, IsRefusalToCome, closes_at, events_between, events_inside, too_long, resume}
 use Rattle.mbox_cutter.proofs.FirstLines.{first_length-le, first_length-positive}
 use Rattle.mbox_cutter.proofs.LineLists.{lines-cons, lines-nil}
-use Rattle.mbox_cutter.proofs.Machine.{between-empty, between-start, inside-line, inside-closing_last, inside-closing, inside-empty, inside-nil, separator-full}
-
--- ---- refusals
-
-pub too_long-beyond : (most all : ℕ) → most < all → too_long most all ≡ Some ArchiveTooLong
-too_long-beyond most all h = grind (arith, nat_lt, nat_tests)
-
-module _ (at most rest : ℕ) (l : List ℕ) (ls lines : List (List ℕ)) (first : lines ≡ l ∷ ls) where
-  refusal-start : is_separator l ≡ true → is_empty l ≡ false → refusal_between at most lines rest
-      ≡ too_long most (at + rest)
-  refusal-start s e = rw first (rw (s, e) refl)
-
-  refusal-empty : (k rest' : ℕ) → length l ≡ k → is_separator l ≡ false → is_empty l ≡ true → rest ≡ k + rest'
-      → refusal_between at most lines rest ≡ refusal_between (at + k) most ls rest'
-  refusal-empty k rest' len s e h = grind (arith, len, add_assoc)
-
-  refusal-none : is_separator l ≡ false → is_empty l ≡ false → at + length l ≤ most → refusal_between at most lines rest
-      ≡ Some NotAnMbox
-  refusal-none s e h = grind (arith, nat_le, nat_tests)
-
-first_full_end-le : (l : List ℕ) (ls : List (List ℕ)) → length l ≤ first_full_end (l ∷ ls)
-first_full_end-le l ls = grind arith
-
-refusal-long : (at most rest : ℕ) (l : List ℕ) (ls : List (List ℕ)) → most < at + length l → length l ≤ rest
-    → refusal_between at most (l ∷ ls) rest ≡ Some ArchiveTooLong
-refusal-long at most rest l ls h k = grind (arith, first_full_end-le, nat_tests, too_long-beyond)
+use Rattle.mbox_cutter.proofs.Machine.{between-start, inside-line, inside-closing_last, inside-closing, inside-empty, separator-full}
 
 same_coming : {a b : List ArchiveEvent} {r q : Option CutFault} → a ≡ b → r ≡ q
     → ◌≡◌ {A = ComingEvents} (record { events = a; refusal = r }) (record { events = b; refusal = q })
@@ -43,12 +18,12 @@ pub step-done : (at most : ℕ) (b : List ℕ) → 0 ≡ first_length b → at �
     → TakesEvent (Done at) (resume Between at most b) (resume Ended at most b)
 unfolding resume
 step-done at most b e h =
-    grind (arith, nat_lt, nat_tests, no_bytes, lines-nil)
+    grind (arith, no_bytes, lines-nil)
 
 pub step-end : (at most start size : ℕ) (b : List ℕ) → 0 ≡ first_length b
     → TakesEvent (End (at - start) size) (resume (Inside start size) at most b) (resume Between at most b)
 unfolding resume
-step-end at most start size b e = grind (arith, no_bytes, lines-nil, inside-nil)
+step-end at most start size b e = grind (arith, no_bytes, lines-nil)
 
 pub ended-stays : (at most : ℕ) (b : List ℕ) → TakesEvent (Done at) (resume Ended at most b) (resume Ended at most b)
 unfolding resume
@@ -78,13 +53,13 @@ pub step-long : (at most : ℕ) (b : List ℕ) → at ≤ most → most < at + f
 unfolding resume
 step-long at most b le h =
     let len : length (take (first_length b) b) ≡ first_length b = first-taken b (first_length b) refl in
-    grind (arith, first-lines, refusal-long, len, first_length-le)
+    grind (arith, first-lines, len, first_length-le)
 
 pub step-long_inside : (at most start size : ℕ) (b : List ℕ) → most < at + first_length b
     → IsRefusalToCome ArchiveTooLong (resume (Inside start size) at most b)
 unfolding resume
 step-long_inside at most start size b h =
-    grind (arith, too_long-beyond, first_length-le)
+    grind (arith, first_length-le)
 
 -- ---- a first line
 
@@ -95,11 +70,10 @@ module _ (at most n : ℕ) (b : List ℕ) (e : n ≡ first_length b) (h : 0 < n)
   -- what comes of all lines is what comes of the first one and of those after it
   front : (f : ℕ → List (List ℕ) → List ArchiveEvent) → f (at + length b) (lines b)
       ≡ f ((at + n) + length (drop n b)) (take n b ∷ lines (drop n b))
-  front f = ap (f (at + length b)) (first-lines b n e h)
-      ∙ ap (λ (all : ℕ). f all (take n b ∷ lines (drop n b))) (first-all b n e at)
+  front f = cc (first-lines b n e h, first-all b n e at)
 
   all-same : too_long most ((at + n) + length (drop n b)) ≡ too_long most (at + length b)
-  all-same = ap (too_long most) (sym (first-all b n e at))
+  all-same = cc (first-all b n e at)
 
   pub step-start : is_separator (take n b) ≡ true
       → TakesEvent (Start at (take n b)) (resume Between at most b) (resume (Inside at 0) (at + n) most (drop n b))
@@ -108,19 +82,19 @@ module _ (at most n : ℕ) (b : List ℕ) (e : n ≡ first_length b) (h : 0 < n)
       let full : is_empty (take n b) ≡ false = separator-full (take n b) s in (
         front (λ all ls. events_between all at ls)
             ∙ between-start (take n b) (lines (drop n b)) n len ((at + n) + length (drop n b)) at s full,
-        grind (arith, all-same, refusal-start, first-lines),
+        grind (arith, all-same, first-lines),
       )
 
   pub step-empty : is_separator (take n b) ≡ false → is_empty (take n b) ≡ true → resume Between at most b
       ≡ resume Between (at + n) most (drop n b)
   unfolding resume
   step-empty s f =
-      grind (arith, same_coming, front, between-empty, len, refusal-empty, first-lines, first-rest)
+      grind (arith, len, first-lines, first-rest)
 
   pub step-refused : is_separator (take n b) ≡ false → is_empty (take n b) ≡ false → at + n ≤ most
       → IsRefusalToCome NotAnMbox (resume Between at most b)
   unfolding resume
-  step-refused s f fits = grind (arith, refusal-none, first-lines, len)
+  step-refused s f fits = grind (arith, first-lines, len)
 
   -- ---- inside a message
 
@@ -160,7 +134,7 @@ module _ (at most n : ℕ) (b : List ℕ) (e : n ≡ first_length b) (h : 0 < n)
           front (λ all ls. events_inside all at start size ls)
               ∙ inside-closing (take n b) (lines (drop n b)) n len (take m (drop n b)) (lines (drop m (drop n b))) next
               ((at + n) + length (drop n b)) at start size f s full,
-          grind (arith, refusal-start, all-same),
+          grind (arith, all-same),
         )
 
     -- an empty line at the end
@@ -180,7 +154,7 @@ module _ (at most n : ℕ) (b : List ℕ) (e : n ≡ first_length b) (h : 0 < n)
         → (nat_eq m 0 || is_separator (take m (drop n b))) ≡ true →
         TakesEvent (End ((at + n) - start) size) (resume (Inside start size) at most b)
         (resume Between (at + n) most (drop n b))
-    closed-cases m h h2 h3 = grind (arith, step-closing_last, step-closing, nat_tests)
+    closed-cases m h h2 h3 = grind (arith, step-closing_last, step-closing)
 
     pub step-closed : is_empty (take n b) ≡ true → closes_at n b ≡ true
         → TakesEvent (End ((at + n) - start) size) (resume (Inside start size) at most b)
@@ -191,18 +165,14 @@ module _ (at most n : ℕ) (b : List ℕ) (e : n ≡ first_length b) (h : 0 < n)
         → TakesEvent (Line (take n b)) (resume (Inside start size) at most b)
         (resume (Inside start (size + n)) (at + n) most (drop n b))
     step-open f c =
-        grind (arith, step-kept, nat_tests)
+        grind (arith, step-kept)
 
 -- ---- the beginning
-
-accepted : (t : Bool) (all : ℕ) (ms : List Message) → cond t [] (events_of all ms)
-    ≡ option_map_or (events_of all) (cond t None (Some ms)) []
-accepted t all ms = grind arith
 
 events-beginning : (b : List ℕ) → events_between (0 + length b) 0 (lines b) ≡ events b
 unfolding events messages
 events-beginning b =
-    grind (arith, accepted, total)
+    grind arith
 
 pub resume-beginning : (most : ℕ) (b : List ℕ) → resume Between 0 most b ≡ coming_of most b
 unfolding resume archive_refusal

@@ -1,5 +1,5 @@
 -- Reading the pieces of a text one after another finds a time and a later year.
-use Rattle.mbox_cutter.proofs.Words.{◌≡◌, ℕ, ◌+◌, Bool, true, false, ◌&&◌, ◌||◌, ◌==◌, List, [], ◌∷◌, Some, None, take, drop, get_or, refl, ap, sym, ◌∙◌, subst, arith, list_any, get_or_default, drop-drop, IsFirstByte, is_byte, separator_tokens, has_time_then_year, is_time, is_year}
+use Rattle.mbox_cutter.proofs.Words.{◌≡◌, ℕ, ◌+◌, Bool, true, ◌&&◌, ◌||◌, ◌==◌, List, [], ◌∷◌, Some, None, take, drop, get_or, ap, sym, ◌∙◌, arith, list_any, get_or_default, drop-drop, IsFirstByte, is_byte, separator_tokens, has_time_then_year, is_year}
 use Rattle.std.proofs.lemmas.List.Sums.{position_or_len_is}
 use Rattle.std.proofs.lemmas.List.Splits.{slice_split_first, slice_split_none}
 use Rattle.mbox_cutter.proofs.FirstLines.{not_true}
@@ -11,25 +11,12 @@ tokens-at rest k f = grind (arith, position_or_len_is, not_true, slice_split_fir
 pub tokens-none : (rest : List ℕ) → IsFirstByte (is_byte 32) rest None → separator_tokens rest ≡ rest ∷ []
 tokens-none rest f = slice_split_none (λ (x : ℕ). x == 32) rest
     (λ k d l. not_true (get_or rest k d == 32)
-    (λ e. f k (omega arith) l (subst (λ (x : ℕ). (x == 32) ≡ true) (get_or_default rest k d 0 l) e)))
-
-and-or : (b y t a r : Bool) → (b && y) ≡ false → ((b && (y || a)) || ((t && a) || r)) ≡ (((b || t) && a) || r)
-and-or b y t a r h = grind arith
-
-found-year : (y a r : Bool) → y ≡ true → ((true && (y || a)) || r) ≡ true
-found-year y a r e = rw e
+    (λ e. f k (omega arith) l (rw (get_or_default rest k d 0 l) at e)))
 
 pub found : (ts : List (List ℕ)) (token : List ℕ) (rest : List (List ℕ)) (timed : Bool) → ts ≡ token ∷ rest → timed
     ≡ true → is_year token ≡ true →
     true ≡ ((timed && list_any is_year ts) || has_time_then_year ts)
-found ts token rest timed e t y = grind (arith, found-year)
-
-last-or : (b y t : Bool) → ((b && (y || false)) || ((t && false) || false)) ≡ (b && y)
-last-or b y t = grind arith
-
-pub last_token : (ts : List (List ℕ)) (token : List ℕ) (timed : Bool) → ts ≡ token ∷ []
-    → ((timed && list_any is_year ts) || has_time_then_year ts) ≡ (timed && is_year token)
-last_token ts token timed e = grind (arith, last-or)
+found ts token rest timed e t y = grind arith
 
 pub tokens-split : (rest token more after : List ℕ) (k : ℕ) → IsFirstByte (is_byte 32) rest (Some k) → token
     ≡ take k rest → more ≡ drop k rest → after ≡ drop 1 more → separator_tokens rest ≡ token ∷ separator_tokens after
@@ -39,17 +26,3 @@ tokens-split rest token more after k f t m a =
       ap (λ (x : List ℕ). separator_tokens (drop 1 x)) m,
       ap separator_tokens a,
     )
-
--- a piece that isn't the year, before a time or after one
-pub turn_untimed : (ts : List (List ℕ)) (token : List ℕ) (rest : List (List ℕ)) (timed next : Bool) → ts ≡ token ∷ rest
-    → timed ≡ false → next ≡ is_time token →
-    ((timed && list_any is_year ts) || has_time_then_year ts)
-    ≡ ((next && list_any is_year rest) || has_time_then_year rest)
-turn_untimed ts token rest timed next e t n = rw (e, t, n) refl
-
-pub turn_timed : (ts : List (List ℕ)) (token : List ℕ) (rest : List (List ℕ)) (timed next : Bool) → ts ≡ token ∷ rest
-    → timed ≡ true → is_year token ≡ false → next ≡ timed →
-    ((timed && list_any is_year ts) || has_time_then_year ts)
-    ≡ ((next && list_any is_year rest) || has_time_then_year rest)
-turn_timed ts token rest timed next e t y n =
-    grind (arith, and-or)

@@ -34,4 +34,4 @@ returns-then-form-text c =
 
 pub returns-else-form-text : goal.returns-else-form-text
 unfolding has_form
-returns-else-form-text c = grind (arith, other_length, nat_tests)
+returns-else-form-text c = grind (arith, other_length)

@@ -1,8 +1,7 @@
 -- `has_time_then_year` looks for a time and then for a year, piece by piece; the last piece has no space after it.
 use Rattle.mbox_cutter.proofs.Words.{◌≡◌, Bool, true, false, ◌&&◌, ◌∷◌, drop, refl, ◌∙◌, separator_tokens, arith}
-use Rattle.mbox_cutter.proofs.Tokens.{tokens-split, tokens-none, turn_untimed, turn_timed, found, last_token}
+use Rattle.mbox_cutter.proofs.Tokens.{tokens-split, tokens-none}
 use Rattle.mbox_cutter.proofs.separator.has_time_then_year.Goals as goal
-use Rattle.mbox_cutter.proofs.separator.has_time_then_year.Goals.{then-not-timed, else-not-timed+else-is_year}
 
 pub tokens-preserved : goal.tokens-preserved
 tokens-preserved c =
@@ -11,7 +10,7 @@ tokens-preserved c =
     tokens-split c.tokens.rest.now c.split_at.result.0.now c.split_at.result.1.now c.split_at-in-Some.result.1.now
     c.in-Some.end c.in-Some.ensures c.split_at.ensures.front c.split_at.ensures.back c.split_at-in-Some.ensures.back
     in
-    grind (arith, then-not-timed, turn_untimed, else-not-timed+else-is_year, turn_timed)
+    grind arith
 
 pub returns-then-is_year : goal.returns-then-is_year
 returns-then-is_year c =
@@ -19,7 +18,7 @@ returns-then-is_year c =
     ≡ c.split_at.result.0.now ∷ separator_tokens (drop 1 c.split_at.result.1.now) =
     tokens-split c.tokens.rest.now c.split_at.result.0.now c.split_at.result.1.now (drop 1 c.split_at.result.1.now)
     c.in-Some.end c.in-Some.ensures c.split_at.ensures.front c.split_at.ensures.back refl in
-    grind (arith, found)
+    grind arith
 
 one : {b y r : Bool} → b ≡ true → r ≡ y → (b && y) ≡ r
 one e f = rw (e, f) refl
@@ -28,7 +27,7 @@ none : {b : Bool} (y : Bool) → b ≡ false → (b && y) ≡ false
 none y e = rw e refl
 
 pub returns-in-None : goal.returns-in-None
-returns-in-None c = grind (arith, last_token, tokens-none, one)
+returns-in-None c = grind (arith, tokens-none, one)
 
 pub returns-in-None-2 : goal.returns-in-None-2
-returns-in-None-2 c = grind (arith, last_token, tokens-none, none)
+returns-in-None-2 c = grind (arith, tokens-none)

@@ -1,15 +1,15 @@
 -- `LineReader::line_length_after` returns the length of the next line, because it reads on until nothing to come can
 -- change it.
-use Rattle.mbox_cutter.proofs.Words.{ℕ, List, ◌<◌, length, take, ap, ◌∙◌, subst, arith, IsAtEnd, take_all, BytesAhead, IsLine, line_end_of}
+use Rattle.mbox_cutter.proofs.Words.{◌<◌, length, ap, ◌∙◌, subst, arith, IsAtEnd, take_all, BytesAhead, line_end_of}
 use Rattle.mbox_cutter.proofs.FirstLines.{line_end-positive, line_end-within, line_end-open}
 use Rattle.mbox_cutter.proofs.LinesAreCut.{line_end-IsLine, open_end-IsLine}
-use Rattle.mbox_cutter.proofs.LineReaders.{at_some, at_end, ReadsOn-join, ReadsOn-failed}
+use Rattle.mbox_cutter.proofs.LineReaders.{at_some, at_end, ReadsOn-join}
 use Rattle.mbox_cutter.proofs.line_reader.LineReader.line_length_after.Goals as goal
 
 pub returns-in-Some-clause-length : goal.returns-in-Some-clause-length
 returns-in-Some-clause-length g c = record {
   within = omega (arith, line_end-within c.unread_after-rest.result.now c.in-Some.n c.in-Some.ensures);
-  line = λ some. subst (λ (rest : List ℕ). IsLine (take c.in-Some.n rest)) c.unread_after-rest.ensures.rest
+  line = λ some. rw c.unread_after-rest.ensures.rest at
       (line_end-IsLine c.unread_after-rest.result.now c.in-Some.n c.in-Some.ensures);
   first = at_some c.args.skip c.in-Some.n c.more.self.unread _ _ (omega arith)
       (c.in-Some.ensures ∙ ap line_end_of c.unread_after-rest.ensures.rest) c.more.invariant.bytes;
@@ -34,7 +34,7 @@ fill-requires-clause-room g c = omega (arith, line_end-open c.unread_after-rest.
 
 pub returns-in_err-fill-in-None-2-clause-reads : goal.returns-in_err-fill-in-None-2-clause-reads
 returns-in_err-fill-in-None-2-clause-reads g c =
-    grind (arith, ReadsOn-join, ReadsOn-failed)
+    grind (arith, ReadsOn-join)
 
 pub more-preserved : goal.more-preserved
 more-preserved g c = grind (arith, ReadsOn-join)
