@@ -70,8 +70,6 @@ pub spaces-more : (into new some : List ℕ) (left n rest : ℕ) → some ≡ re
     ≡ into ++ some → new ++ replicate rest 0x20 ≡ into ++ replicate left 0x20
 spaces-more into new some left n rest are parts added = grind (arith, append_assoc, replicate-append-replicate)
 
--- ---- what ends a span
-
 -- ---- a text that is cut at an ASCII character
 
 differs : (a c : ℕ) → a ≢ c → (a == c) ≡ false

@@ -182,5 +182,3 @@ module _ (fs : List HeaderField) (size : ℕ) (in_field : Bool) (stage : Stage) 
 
   pub taken-next_more : (stage_after stage size l ≡ Ended → ⊥) → More ≡ taken_of (ls ++ l ∷ [])
   taken-next_more goes_on = taken-more (ls ++ l ∷ []) (λ e. goes_on (stepped.next ∙ e))
-
--- ---- the bounds
