@@ -1,5 +1,5 @@
 -- What the parts of a run do, put together.
-use Rattle.std.proofs.Common.{◌≡◌, ◌⊎◌, ℕ, List, [], Option, None, Some, Result, Ok, arith}
+use Rattle.std.proofs.Common.{◌≡◌, ◌⊎◌, subst, sym, ℕ, List, [], Option, None, Some, Result, Ok, arith}
 use Rattle.std.specs.List.{Contains}
 use Rattle.mbox_cutter.specs.declared.device.Out.{Ghosts}
 use Rattle.named_archives.specs.Progress.{CannotRead}
@@ -42,10 +42,10 @@ module _ {D F S N L R M A O : Type 0} (f : FolderGhosts D F S N L R M A) (o : Gh
       → Ran f o handed_on ReadsAgree (both_names task.file) (Ok task) old new out out ended
   ran-made task name some old new out ended makes = grind arith
 
-  -- ---- the same run, of more names
-
+  -- the same run, of more names and by another word for its task
   pub ran-wider : (names more : List (List ℕ)) → ((path : List ℕ) → Contains names path → Contains more path)
-      → (task : Result Task Ending) (old new : D) (out out' : O) (ended : Ending)
+      → (task other : Result Task Ending) → other ≡ task → (old new : D) (out out' : O) (ended : Ending)
       → Ran f o handed_on ReadsAgree names task old new out out' ended
-      → Ran f o handed_on ReadsAgree more task old new out out' ended
-  ran-wider names more wider task old new out out' ended ran = grind arith
+      → Ran f o handed_on ReadsAgree more other old new out out' ended
+  ran-wider names more wider task other same old new out out' ended ran =
+      subst (λ t. Ran f o handed_on ReadsAgree more t old new out out' ended) (sym same) (grind arith)

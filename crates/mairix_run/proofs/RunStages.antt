@@ -13,7 +13,7 @@ use Rattle.run_faults.specs.declared.fault.Fault.{Fault}
 use Rattle.mairix_run.specs.Stops.{Ending, IsGivenUnlessRefused, IsStoppedAt, IsStoppedBy, ending_of_stopped}
 use Rattle.mairix_run.specs.Stops.Ending.{CannotOpen, Because}
 use Rattle.mairix_run.specs.Tasks.{Task, because_rc, files_at, index_task, is_index_run, search_stored_task, search_task, task_of_plan, task_of_rc}
-use Rattle.mairix_run.specs.Tasks.Work.{SearchNew}
+use Rattle.mairix_run.specs.Tasks.Work.{SearchNew, SearchStored}
 use Rattle.mairix_options.specs.Rcfile.{rc_of}
 use Rattle.mairix_options.specs.declared.command_line.Plan.{Plan}
 use Rattle.mairix_options.specs.declared.rcfile.Rc.{Rc}
@@ -85,3 +85,9 @@ module _ (holds : List ℕ → Entry) (wanted : Result Wanted Fault) (p : Plan) 
   pub task-stored : is_index_run p ≡ false → p.once ≡ false
       → task_of_rc holds wanted p rc ≡ search_stored_task holds wanted p rc bytes
   task-stored is not = grind arith
+
+-- the task of a search by an index that is there
+pub stored-read : (holds : List ℕ → Entry) (wanted : Result Wanted Fault) (p : Plan) (rc : Rc) (bytes : List (List ℕ))
+    (index : List ℕ) → holds rc.database ≡ File index
+    → search_stored_task holds wanted p rc bytes ≡ Ok (search_task p rc (SearchStored wanted index bytes))
+stored-read holds wanted p rc bytes index is = grind arith

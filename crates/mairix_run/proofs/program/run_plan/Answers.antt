@@ -1,5 +1,5 @@
 -- The rcfile can't be read, or is refused.
-use Rattle.std.proofs.Common.{◌≡◌, ◌∙◌, sym, ap, subst, List, [], ℕ, map, Result, Ok, Err, IfOk, true, rules, string_bytes}
+use Rattle.std.proofs.Common.{◌≡◌, ◌∙◌, sym, ap, subst, List, [], ℕ, map, Ok, Err, IfOk, true, rules, string_bytes}
 use Rattle.std.specs.List.{Contains}
 use Rattle.std.specs.Option.{option_map_or}
 use Rattle.contract_words.specs.Answers.{◌>>=◌, fault_as}
@@ -14,7 +14,7 @@ use Rattle.mairix_run.specs.NamesUsed.{names_asked, names_given, names_of_plan, 
 use Rattle.mairix_run.specs.Inside.RunParts.{Ran}
 use Rattle.mairix_run.specs.Stops.{Ending, IsGivenUnlessRefused, ending_of_result, ending_of_stopped}
 use Rattle.mairix_run.specs.Stops.Ending.{CannotOpen}
-use Rattle.mairix_run.specs.Tasks.{Task, because_rc, task_of_plan, task_of_rc}
+use Rattle.mairix_run.specs.Tasks.{because_rc, task_of_plan, task_of_rc}
 use Rattle.mairix_tool.specs.Asked.{wanted_of_words}
 use Rattle.run_faults.specs.declared.fault.Fault.TheVariants.{Rc}
 use Rattle.mairix_run.proofs.program.run_plan.Given.{Over}
@@ -52,9 +52,11 @@ here g c agree =
 all-made : (g : Over) (c : After-names_of_files g) → (g.F.Folder.agree c.read_named-text.new.reports ≡ true
     → g.F.Folder.holds c.args.files.now.folder c.args.plan.now.rcfile ≡ File c.in-Ok.text.items)
     → AsksFor (names_of_plan (g.F.Folder.holds c.args.files.now.folder) c.args.plan.now)
+    (g.F.Folder.agree c.args.files.now.reports) (g.F.Folder.made c.args.names.now) (g.F.Folder.made c.name.new.names)
+    → AsksFor (names_of_plan (g.F.Folder.holds c.args.files.now.folder) c.args.plan.now)
     (g.F.Folder.agree c.args.files.now.reports)
     (g.F.Folder.made c.args.names.now) (g.F.Folder.made c.names_of_files.new.names)
-all-made g c found =
+all-made g c found first =
     let F = g.F.Folder in
     let holds = F.holds c.args.files.now.folder in
     let p = c.args.plan.now in
@@ -67,9 +69,7 @@ all-made g c found =
     let new = F.made c.names_of_files.new.names in
     let said : rc_of c.in-Ok.text.items ≡ Ok rc = subst (λ t. rc_of t ≡ Ok rc) c.as_slice.ensures.value
     c.in-Ok-read_rc.ensures.given in
-    asks_then names agree old mid new
-    (asks_one names agree old mid c.as_str-path.result.now
-    (subst (λ n. Contains names n) (sym c.as_str-path.ensures) (rcfile-planned p holds)) c.name.ensures.noted)
+    asks_then names agree old mid new first
     (asks_wider (names_given p rc) names agree later mid new c.read_named-text.ensures.reports.earlier
     (λ agrees. given-planned p rc holds c.in-Ok.text.items (ap bytes_of (found agrees)) said)
     c.names_of_files.ensures.asked)
@@ -87,10 +87,12 @@ pub returns-in_err-made-clause-asked : goal.returns-in_err-made-clause-asked
 returns-in_err-made-clause-asked g c =
     let at = goal.at.returns-in_err-made-clause-asked g c
     in all-made g at.After-names_of_files (here g at.After-as_slice)
+    (rcfile-made g at.After-name)
 
 pub returns-clause-asked : goal.returns-clause-asked
 returns-clause-asked g c =
     let at = goal.at.returns-clause-asked g c in all-made g at.After-names_of_files (here g at.After-as_slice)
+    (rcfile-made g at.After-name)
 
 -- ---- what it does
 
@@ -179,14 +181,13 @@ returns-clause-ran g c = λ agree.
     (c.run_asked.ensures.reports.earlier agree) in
     let said : rc_of bytes ≡ Ok rc = subst (λ t. rc_of t ≡ Ok rc) c.as_slice.ensures.value
     c.in-Ok-read_rc.ensures.given in
-    let Does : List (List ℕ) → Result Task Ending → Type 0 = λ names task. Ran F g.O.Out g.O.Stream.handed_on
-    (F.agree c.run_asked.new.files.reads ≡ true) names task c.args.files.now.folder c.run_asked.new.files.folder
-    c.args.out.now c.run_asked.new.out (ending_of_result c.run_asked.result) in
     let task = task_of_rc holds (wanted_of_words words bytes moment) p in
-    subst (λ t. Does names t)
-    (sym (plan-read holds words moment p bytes found ∙ ap (λ r. fault_as because_rc r >>= task) said))
-    (ran-wider F g.O.Out g.O.Stream.handed_on (F.agree c.run_asked.new.files.reads ≡ true) (names_asked p rc) names
-    (asked-planned p rc holds bytes (ap bytes_of found) said) (task rc) c.args.files.now.folder
-    c.run_asked.new.files.folder c.args.out.now c.run_asked.new.out (ending_of_result c.run_asked.result)
-    (subst (λ t. Does (names_asked p rc) (task_of_rc holds (wanted_of_words words t moment) p rc))
-    c.as_slice-2.ensures.value (c.run_asked.ensures.ran agree)))
+    ran-wider F g.O.Out g.O.Stream.handed_on (F.agree c.run_asked.new.files.reads ≡ true) (names_asked p rc) names
+    (asked-planned p rc holds bytes (ap bytes_of found) said) (task rc) _
+    (plan-read holds words moment p bytes found ∙ ap (λ r. fault_as because_rc r >>= task) said)
+    c.args.files.now.folder c.run_asked.new.files.folder c.args.out.now c.run_asked.new.out
+    (ending_of_result c.run_asked.result)
+    (subst (λ t. Ran F g.O.Out g.O.Stream.handed_on (F.agree c.run_asked.new.files.reads ≡ true) (names_asked p rc)
+    (task_of_rc holds (wanted_of_words words t moment) p rc) c.args.files.now.folder c.run_asked.new.files.folder
+    c.args.out.now c.run_asked.new.out (ending_of_result c.run_asked.result))
+    c.as_slice-2.ensures.value (c.run_asked.ensures.ran agree))

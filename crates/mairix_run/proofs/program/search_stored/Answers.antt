@@ -4,12 +4,11 @@ use Rattle.std.specs.List.{Contains}
 use Rattle.std.specs.Option.{option_map_or}
 use Rattle.contract_words.specs.Answers.{◌>>=◌}
 use Rattle.mairix_options.specs.AnswerFiles.{answer_file}
-use Rattle.named_files.specs.Entries.{IsFileOf, bytes_of}
+use Rattle.named_files.specs.Entries.{File, IsFileOf, bytes_of}
 use Rattle.mairix_run.proofs.LikeWorks.{alike-read, ran-alike}
 use Rattle.mairix_run.proofs.NamesUsed.{contains-first, contains-more}
 use Rattle.mairix_run.proofs.RunParts.{ran-ended, ran-wider}
-use Rattle.mairix_run.proofs.RunStages.{Ends, given-ok, read-fails}
-use Rattle.mairix_run.specs.Inside.RunParts.{Ran}
+use Rattle.mairix_run.proofs.RunStages.{Ends, given-ok, read-fails, stored-read}
 use Rattle.mairix_run.specs.IndexReads.{IsIndexRead}
 use Rattle.mairix_run.specs.NamesUsed.{both_names}
 use Rattle.mairix_run.specs.Stops.{Ending, IsGivenUnlessRefused, ending_of_result, ending_of_stopped}
@@ -39,25 +38,16 @@ returns-clause-ran g c = λ bytes files agree.
     subst (λ b. IsIndexRead all b) (sym c.as_slice.ensures.value) read.1 in
     let ended = ending_of_result c.run_search.result in
     let names = both_names (answer_file p rc) in
-    let ran : Ran F g.O.Out g.O.Stream.handed_on ReadsAgree names
-    (Ok (search_task p rc (SearchStored wanted all bytes))) old
-    c.run_search.new.files.folder c.args.out.now c.run_search.new.out ended =
-    ran-alike wanted c.as_slice.result.now all bytes (alike-read wanted all c.as_slice.result.now bytes is)
+    let task : Result Task Ending = Ok (search_task p rc (SearchStored wanted all bytes)) in
+    let ran = ran-alike wanted c.as_slice.result.now all bytes (alike-read wanted all c.as_slice.result.now bytes is)
     F g.O.Out g.O.Stream.handed_on ReadsAgree names p rc old c.run_search.new.files.folder c.args.out.now
     c.run_search.new.out ended
     (c.run_search.ensures.ran bytes files agree) in
-    let more = rc.database ∷ names in
-    subst (λ n. Ran F g.O.Out g.O.Stream.handed_on ReadsAgree more
-    (option_map_or Ok (bytes_of (F.holds old n)) (Err (CannotOpen n)) >>=
-    λ index. Ok (search_task p rc (SearchStored wanted index bytes))) old
-    c.run_search.new.files.folder c.args.out.now c.run_search.new.out ended) asked.database_named
-    (subst (λ e. Ran F g.O.Out g.O.Stream.handed_on ReadsAgree more
-    (option_map_or Ok (bytes_of e) (Err (CannotOpen path)) >>=
-    λ index. Ok (search_task p rc (SearchStored wanted index bytes))) old
-    c.run_search.new.files.folder c.args.out.now c.run_search.new.out ended) (sym read.2)
-    (ran-wider F g.O.Out g.O.Stream.handed_on ReadsAgree names more (λ n. contains-more rc.database n names)
-    (Ok (search_task p rc (SearchStored wanted all bytes))) old c.run_search.new.files.folder c.args.out.now
-    c.run_search.new.out ended ran))
+    ran-wider F g.O.Out g.O.Stream.handed_on ReadsAgree names (rc.database ∷ names)
+    (λ n. contains-more rc.database n names) task _ (stored-read (F.holds old) wanted p rc bytes all
+    (subst (λ n. F.holds old n ≡ File all) asked.database_named read.2)) old c.run_search.new.files.folder
+    c.args.out.now
+    c.run_search.new.out ended ran
 
 -- the index can't be read
 pub returns-in-Err-clause-ran : goal.returns-in-Err-clause-ran
