@@ -21,8 +21,8 @@ use Rattle.mail_answer.specs.declared.format.Format.TheVariants.{Raw}
 pub record HoldsArchives {A : Type 0} (g : Ghosts A) (old new : A) : Type 0 where
   -- each archive has the bytes that it had, if they are still known
   pub held : WasKnown (g.held old) (g.held new)
-  -- the bytes of all of them are still the same, if they keep account of them
-  pub whole : (archives : List (List ℕ)) → g.whole old archives → g.whole new archives
+  -- what they were, if they keep account of that, they were still
+  pub was : (first : A) → g.was old first → g.was new first
   -- their number is the same
   pub number : g.number new ≡ g.number old
 

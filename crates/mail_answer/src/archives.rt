@@ -28,8 +28,8 @@ pub trait Archives {
     /// How many calls have failed.
     ghost failures: { Self → ℕ };
 
-    /// Whether these are the bytes of all archives, if they keep account of them. No call changes it.
-    ghost whole: { Self → List (List ℕ) → Type 0 } = { λ _ _. ⊤ };
+    /// Whether they were these other archives before any number of calls, if they keep account of that. No call changes it.
+    ghost was: { Self → Self → Type 0 } = { λ _ _. ⊤ };
 
     /// A count that a call of `length` may change. No other call changes it: a read leaves it as it is.
     ghost lengths_asked: { Self → ℕ };
@@ -54,8 +54,7 @@ pub trait Archives {
         ensures measured { measures self.old n result self.new }
         ensures count { Counts result (failures self.old) (failures self.new) }
         ensures held { WasKnown (held self.old) (held self.new) }
-        ensures whole { (archives : List (List ℕ))
-            → whole self.old archives → whole self.new archives }
+        ensures was { (first : Self) → was self.old first → was self.new first }
         ensures number { number self.new ≡ number self.old };
 
     /// Reads the archive with this number from an offset on, and returns the number of bytes read. Into a slice that
@@ -71,7 +70,6 @@ pub trait Archives {
         ensures asked { lengths_asked self.new ≡ lengths_asked self.old }
         ensures count { Counts result (failures self.old) (failures self.new) }
         ensures held { WasKnown (held self.old) (held self.new) }
-        ensures whole { (archives : List (List ℕ))
-            → whole self.old archives → whole self.new archives }
+        ensures was { (first : Self) → was self.old first → was self.new first }
         ensures number { number self.new ≡ number self.old };
 }

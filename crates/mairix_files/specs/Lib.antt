@@ -2,6 +2,7 @@
 -- are found, opened and made.
 pub mod EntryCodes
 pub mod FileAnswers
+pub mod FileStateCodes
 pub mod FileStates
 pub mod KitFiles
 pub mod KitNews

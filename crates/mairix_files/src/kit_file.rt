@@ -32,7 +32,7 @@ pub struct KitFile<F: Read + OpenFile + FileExt + Drop> {
     /// None once it is closed.
     opened: Option<Opened<F>>,
     /// The state in which it was found since the last call that read it.
-    state: Option<FileState>,
+    pub(crate) state: Option<FileState>,
     failures: u64,
     record: Record,
 }

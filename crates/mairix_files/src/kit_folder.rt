@@ -149,6 +149,8 @@ impl<'r, R: Files<File = File>> Folder for KitFolder<'r, R> {
 
     ghost agree = { λ reports. reports.agree };
 
+    ghost found = { λ reports. reports.found };
+
     ghost made = { λ names. names.notes.made };
 
     ghost holds = { λ f n. supposed_now f.supposed f.calls.done n };
@@ -240,7 +242,7 @@ impl<'r, R: Files<File = File>> Folder for KitFolder<'r, R> {
     }
 
     fn take_back(&self, reports: &mut KitReports, file: KitFile<File>) {
-        note_file(reports, &file);
+        note_file(reports, &file, &file.state);
     }
 
     fn look(

@@ -1,19 +1,24 @@
 //! What the system reported of files, which only clauses read.
-ghost use Rattle.std.specs.Prelude.{◌≡◌, ◌&&◌, Bool, true};
+ghost use Rattle.std.specs.Prelude.{◌≡◌, ◌&&◌, ◌∷◌, ◌++◌, Bool, true, [], List, Option};
 ghost use Rattle.std.specs.Borrow.{ftrue};
-ghost use Rattle.std.specs.Coded.{coded_bool};
+ghost use Rattle.std.specs.Coded.{coded_bool, coded_list, coded_option};
+ghost use Rattle.mairix_files.specs.FileStateCodes.{file_state_code};
+ghost use Rattle.mairix_files.specs.declared.file_state.FileState.{FileState};
 
+use crate::file_state::FileState;
 use crate::kit_calls::KitCalls;
 use crate::supposed_names::SupposedNames;
 use std::alloc::AllocError;
 use std::marker::{Model, PhantomData};
 
-/// Whether everything that the system reported of files agrees with what is supposed of them. It isn't in memory: a
-/// value has no size, and a program without its reports does the same.
+/// Whether everything that the system reported of files agrees with what is supposed of them, and the states in which
+/// files were found that were given back, the newest first. Neither is in memory: a value has no size, and a program
+/// without its reports does the same.
 #[derive(Drop)]
 pub struct KitReports {
     marker: PhantomData<u8>,
     pub ghost agree: { Bool } by { coded_bool },
+    pub ghost found: { List (Option FileState) } by { coded_list (coded_option file_state_code) },
 }
 
 impl Model for KitReports {
@@ -23,32 +28,34 @@ impl Model for KitReports {
 impl KitReports {
     /// Returns reports of which there are none yet.
     pub(crate) fn new() -> KitReports
-        ensures { result.agree ≡ true }
+        ensures agree { result.agree ≡ true }
+        ensures found { result.found ≡ [] }
     {
         KitReports::of()
     }
 
-    /// Adds a report, which agrees with what is supposed or doesn't.
+    /// Adds a report, which agrees with what is supposed or doesn't. No file is given back.
     pub(crate) fn note(&mut self)
         ghost agrees: { Bool }
-        ensures { self.new.agree ≡ (self.old.agree && agrees) }
+        ensures agree { self.new.agree ≡ (self.old.agree && agrees) }
+        ensures found { self.new.found ≡ self.old.found }
     {
-        *self = self.next();
+        *self = self.next(&());
     }
 
-    /// Returns the reports that come after these. A proof says whether they agree, by what is passed here (decision 125
+    /// Returns the reports that come after these. A proof says which ones these are, by what is passed here (decision 125
     /// in docs/DECISIONS.md).
-    fn next(&self) -> KitReports
-        ghost said: { Bool }
-        ensures { result.agree ≡ said }
+    fn next<T>(&self, _noted: &T) -> KitReports
+        ghost said: { Bool × List (Option FileState) }
+        ensures { (result.agree ≡ said.0) × (result.found ≡ said.1) }
     {
         KitReports::of()
     }
 
     /// Returns any reports.
     fn of() -> KitReports
-        ghost said: { Bool }
-        ensures { result.agree ≡ said }
+        ghost said: { Bool × List (Option FileState) }
+        ensures { (result.agree ≡ said.0) × (result.found ≡ said.1) }
     {
         KitReports {
             marker: PhantomData,
@@ -65,7 +72,8 @@ pub(crate) fn note_told<T>(
     _told: &T,
 )
     ghost agrees: { Bool }
-    ensures { reports.new.agree ≡ (reports.old.agree && agrees) }
+    ensures agree { reports.new.agree ≡ (reports.old.agree && agrees) }
+    ensures found { reports.new.found ≡ reports.old.found }
 {
     reports.note();
 }
@@ -79,23 +87,25 @@ pub(crate) fn note_apart(
     _told: &Result<bool, AllocError>,
 )
     ghost agrees: { Bool }
-    ensures { reports.new.agree ≡ (reports.old.agree && agrees) }
+    ensures agree { reports.new.agree ≡ (reports.old.agree && agrees) }
+    ensures found { reports.new.found ≡ reports.old.found }
 {
     reports.note();
 }
 
-/// Notes what was reported of the bytes of a file.
-pub(crate) fn note_file<T>(reports: &mut KitReports, _file: &T)
+/// Notes what was reported of the bytes of a file that is given back, and the state in which it was found.
+pub(crate) fn note_file<T>(reports: &mut KitReports, _file: &T, state: &Option<FileState>)
     ghost agrees: { Bool }
-    ensures { reports.new.agree ≡ (reports.old.agree && agrees) }
+    ensures agree { reports.new.agree ≡ (reports.old.agree && agrees) }
+    ensures found { reports.new.found ≡ state.now ∷ reports.old.found }
 {
-    reports.note();
+    *reports = reports.next(state);
 }
 
 /// Notes more reports.
-pub(crate) fn note_more(reports: &mut KitReports, _more: &KitReports)
-    ghost agrees: { Bool }
-    ensures { reports.new.agree ≡ (reports.old.agree && agrees) }
+pub(crate) fn note_more(reports: &mut KitReports, more: &KitReports)
+    ensures agree { reports.new.agree ≡ (reports.old.agree && more.now.agree) }
+    ensures found { reports.new.found ≡ more.now.found ++ reports.old.found }
 {
-    reports.note();
+    *reports = reports.next(more);
 }

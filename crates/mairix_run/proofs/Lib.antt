@@ -2,6 +2,7 @@
 mod AskedNames
 pub mod FileFronts
 pub mod FilesAt
+pub mod FirstStates
 pub mod IndexReads
 pub mod IndexReplies
 pub mod IndexedFiles

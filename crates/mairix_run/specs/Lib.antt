@@ -4,6 +4,7 @@ pub mod AskedNames
 pub mod Clocks
 pub mod Commands
 pub mod FileFronts
+pub mod FirstStates
 pub mod LastFlush
 pub mod IndexReads
 pub mod Indexed

@@ -5,7 +5,8 @@ ghost use Rattle.std.specs.Vec.Iter.{into_iter_items};
 ghost use Rattle.std.specs.declared.io.ErrorKind.TheVariants.{OutOfMemory};
 ghost use Rattle.mairix_run.specs.Clocks.{second_shown};
 ghost use Rattle.mairix_run.specs.Commands.{ReportsUnread, RunsProgram};
-ghost use Rattle.named_files.specs.Reported.{AddsReports};
+ghost use Rattle.named_files.specs.AddedReports.{AddsReports};
+ghost use Rattle.named_files.specs.FoundStates.{AreReadInFirstStates};
 
 use crate::clock::moment_of;
 use crate::ending_report::report_unread_words;
@@ -59,7 +60,9 @@ pub fn run_command<F: Folder, T: Texts, O: Stream, E: Out>(
         (T.is_usage_text texts.now (map string_bytes (drop 1 (into_iter_items args))))
         T.memory_can_run_out
         (map string_bytes (drop 1 (into_iter_items args))) (second_shown given.shown)
-        (F.agree files.new.reports ≡ true) (F.agree files.new.reads ≡ true) files.old.folder
+        (F.agree files.new.reports ≡ true) (F.agree files.new.reads ≡ true)
+        (AreReadInFirstStates (F.found files.old.reports) (F.found files.new.reports)
+        (F.found files.old.reads) (F.found files.new.reads)) files.old.folder
         files.new.folder
         (F.made names.old) (F.made names.new) streams.old.out streams.new.out streams.old.err
         streams.new.err result
@@ -71,10 +74,8 @@ pub fn run_command<F: Folder, T: Texts, O: Stream, E: Out>(
         files.old.folder files.new.folder names.old names.new streams.old.out streams.new.out
         streams.old.err streams.new.err) }
     ensures none { F.making files.new.folder ≡ None }
-    ensures reports { AddsReports F.reports_are_right (F.agree files.old.reports)
-        (F.agree files.new.reports) }
-    ensures reads { AddsReports F.reports_are_right (F.agree files.old.reads)
-        (F.agree files.new.reads) }
+    ensures reports { AddsReports F.Folder files.old.reports files.new.reports }
+    ensures reads { AddsReports F.Folder files.old.reads files.new.reads }
 {
     match words_given(files.alloc, given.args) {
         Ok(words) => {

@@ -1,12 +1,12 @@
 //! What a run writes: an index, or an answer.
-ghost use Rattle.std.specs.Prelude.{◌≡◌, ◌⊎◌, ◌<◌, ◌+◌, ◌-◌, ◌^◌, ℕ, List, true, false, Some, map, IfErr, OnOk};
+ghost use Rattle.std.specs.Prelude.{◌≡◌, ◌⊎◌, ◌<◌, ◌+◌, ◌-◌, ◌^◌, ℕ, List, Option, true, false, Some, map, IfErr, OnOk};
 ghost use Rattle.contract_words.specs.Devices.{Counted};
 ghost use Rattle.mairix_run.specs.OldIndexes.{IsNotReplaced};
 ghost use Rattle.mairix_run.specs.Tasks.{Work};
 ghost use Rattle.mairix_run.specs.WholeRuns.{IsWritten, is_kept};
 ghost use Rattle.named_archives.specs.Names.{files_of};
 ghost use Rattle.named_archives.specs.Progress.{CannotRead};
-ghost use Rattle.named_files.specs.Reported.{AddsReports};
+ghost use Rattle.named_files.specs.AddedReports.{AddsReports};
 ghost use Rattle.run_faults.specs.Faults.{fault_in, is_failed_out};
 
 use crate::stopped::Stopped;
@@ -25,6 +25,9 @@ pub(crate) trait Content<F: Folder> {
     /// The work that it is, if the archives have these bytes.
     ghost work: { Self → List (List ℕ) → Work };
 
+    /// In which states the archives were found, if it was written: what was noted of files before and after that.
+    ghost are_found: { Self → List (Option F.File.State) → List (Option F.File.State) → Type 0 };
+
     /// Checks that a file of it may take the place of what has a name.
     ///
     /// # Errors
@@ -37,8 +40,7 @@ pub(crate) trait Content<F: Folder> {
             → F.agree reports.new ≡ true → IsNotReplaced (F.Name.text name.now)
             ((is_kept (work self.now bytes) (F.holds folder.now (F.Name.text name.now)) ≡ true)
             ⊎ (F.can_refuse ⊎ F.reads_can_fail)) stopped) }
-        ensures reports { AddsReports F.reports_are_right (F.agree reports.old)
-            (F.agree reports.new) };
+        ensures reports { AddsReports F.Folder reports.old reports.new };
 
     /// Writes it, and returns the status. The output isn't flushed.
     ///
@@ -56,6 +58,7 @@ pub(crate) trait Content<F: Folder> {
             (O.taken out.old) (O.taken out.new) result }
         ensures out_failed { Counted (is_failed_out (fault_in result)) (O.failures out.old)
             (O.failures out.new) }
-        ensures reports { AddsReports F.reports_are_right (F.agree reports.old)
-            (F.agree reports.new) };
+        ensures in_state { OnOk result (are_found self.now (F.found reports.old)
+            (F.found reports.new)) }
+        ensures reports { AddsReports F.Folder reports.old reports.new };
 }

@@ -4,7 +4,7 @@
 ghost use Rattle.std.specs.Prelude.{◌≡◌, ◌⊎◌, ◌<◌, true, false, [], None, IfOk, IfErr, OnOk};
 ghost use Rattle.named_files.specs.Entries.{IsFileOf, bytes_of};
 ghost use Rattle.named_files.specs.Refusals.{HasCause};
-ghost use Rattle.named_files.specs.Reported.{AddsReports};
+ghost use Rattle.named_files.specs.AddedReports.{AddsReports};
 ghost use Rattle.mairix_run.specs.IndexReads.{IsKnownRead, IsReadAs, IsRefusedEarly, seen_early};
 ghost use Rattle.mairix_run.specs.declared.named_file.Reading.TheVariants.{Index};
 
@@ -51,7 +51,7 @@ pub fn read_named<F: Folder>(
     ensures refused { IfErr result (λ why. HasCause why
         ((bytes_of (F.holds folder.now (F.Name.text name.now)) ≡ None)
         ⊎ (F.can_refuse ⊎ F.reads_can_fail))) }
-    ensures reports { AddsReports F.reports_are_right (F.agree reports.old) (F.agree reports.new) }
+    ensures reports { AddsReports F.Folder reports.old reports.new }
 {
     let mut file = match folder.open(alloc, name) {
         Ok(file) => file,

@@ -1,5 +1,5 @@
 //! The answer of a search of the archives to which some names lead.
-ghost use Rattle.std.specs.Prelude.{◌≡◌, ◌⊎◌, ◌<◌, ◌≤◌, ◌^◌, ◌-◌, ℕ, List, true, None, Some, Ok, length, map, IfSome};
+ghost use Rattle.std.specs.Prelude.{◌≡◌, ◌⊎◌, ◌<◌, ◌≤◌, ◌^◌, ◌-◌, ℕ, List, true, None, Some, Ok, length, map, IfSome, OnOk};
 ghost use Rattle.std.specs.Result.{MatchResult};
 ghost use Rattle.std.specs.String.{string_bytes};
 ghost use Rattle.mail_answer.specs.Asked.{HoldsArchives};
@@ -8,7 +8,9 @@ ghost use Rattle.mairix_run.specs.Answered.{AnswersBy, AnswersByMessages, FailsW
 ghost use Rattle.mairix_tool.specs.Asked.{asked_rc, asks};
 ghost use Rattle.named_archives.specs.Names.{files_of};
 ghost use Rattle.named_archives.specs.Progress.{CannotRead};
-ghost use Rattle.named_files.specs.Reported.{AddsReports};
+ghost use Rattle.named_archives.specs.States.{IsInOneOf};
+ghost use Rattle.named_files.specs.AddedReports.{AddsReports};
+ghost use Rattle.named_files.specs.FoundStates.{AreFoundOnly};
 ghost use Rattle.run_faults.specs.Faults.{fault_in};
 
 use crate::unread::report_lack_of_memory;
@@ -89,7 +91,10 @@ pub fn answer_names<F: Folder, O: Out>(
         (files_of F.Name.text (F.holds folder.now) search.now.names.now)
         (CannotRead F.can_refuse F.reads_can_fail) (fault_in result)
         (O.failures out.old) (O.failures out.new) }
-    ensures reports { AddsReports F.reports_are_right (F.agree reports.old) (F.agree reports.new) }
+    // Whatever is reported: if there is an answer, each archive that was read was found in one of the first states.
+    ensures in_state { OnOk result (AreFoundOnly (IsInOneOf search.now.states.now)
+        (F.found reports.old) (F.found reports.new)) }
+    ensures reports { AddsReports F.Folder reports.old reports.new }
 {
     let Some(mut archives) = NamedArchives::new(folder, search.alloc, search.names, search.states)
     else {
@@ -132,7 +137,10 @@ fn answer_once<F: Folder, A: Archives, O: Out>(
         ((A.failures archives.old < A.failures archives.new)
         ⊎ CannotRead F.can_refuse F.reads_can_fail) result out.old out.new }
     ensures held { HoldsArchives A.Archives archives.old archives.new }
-    ensures reports { AddsReports F.reports_are_right (F.agree reports.old) (F.agree reports.new) }
+    ensures in_state { OnOk result (AreFoundOnly (IsInOneOf search.now.states.now)
+        (F.found reports.old) (F.found reports.new)) }
+    ensures counts { OnOk result (A.failures archives.new ≡ A.failures archives.old) }
+    ensures reports { AddsReports F.Folder reports.old reports.new }
 {
     let Search {
         alloc,

@@ -5,7 +5,7 @@ ghost use Rattle.mail_index.specs.Tables.{IsPath};
 ghost use Rattle.mairix_run.specs.Indexed.{IndexesFiles};
 ghost use Rattle.named_archives.specs.Names.{files_of};
 ghost use Rattle.named_archives.specs.Progress.{CannotRead};
-ghost use Rattle.named_files.specs.Reported.{AddsReports};
+ghost use Rattle.named_files.specs.AddedReports.{AddsReports};
 
 use crate::new_index::NewIndex;
 use crate::unread::report_lack_of_memory;
@@ -36,7 +36,7 @@ pub fn index_names<F: Folder, O: Out>(
     ensures indexed { IndexesFiles O.Out (map string_bytes index.now.paths.now)
         (files_of F.Name.text (F.holds folder.now) index.now.names.now) (F.agree reports.new ≡ true)
         (CannotRead F.can_refuse F.reads_can_fail) result out.old out.new }
-    ensures reports { AddsReports F.reports_are_right (F.agree reports.old) (F.agree reports.new) }
+    ensures reports { AddsReports F.Folder reports.old reports.new }
 {
     let Ok(mut sources) = sources_of(folder, index.alloc, index.names, &[]) else {
         return Err(Fault::Memory);

@@ -4,7 +4,7 @@ ghost use Rattle.std.specs.Result.{MatchResult};
 ghost use Rattle.named_files.specs.Crashes.{LeavesOnly};
 ghost use Rattle.named_files.specs.OtherNames.{LeavesAloneThroughout};
 ghost use Rattle.named_files.specs.Refusals.{HasCause, refusal_of_name};
-ghost use Rattle.named_files.specs.Reported.{AddsReports};
+ghost use Rattle.named_files.specs.AddedReports.{AddsReports};
 ghost use Rattle.named_files.specs.TakingNames.{Replaces};
 ghost use Rattle.mairix_run.specs.OldIndexes.{IsNotReplaced};
 ghost use Rattle.mairix_run.specs.MadeFiles.{IsNotMade, IsRefusal, IsSettled, LeadToOldOrNew, LeadsForGood, MakesFile, MayBeMade, fault_of_refusal, SettlesFile, is_final_name, is_open_to, is_special, taken_name, unfit_name};
@@ -68,7 +68,7 @@ pub fn create_file<F: Folder>(
         → (n : List ℕ) → F.holds folder.new n ≡ F.holds folder.old n) }
     ensures calls { MakesFile F.removes F.creates (F.Name.text names.now.temporary) (is_ok result)
         folder.old folder.new }
-    ensures reports { AddsReports F.reports_are_right (F.agree reports.old) (F.agree reports.new) }
+    ensures reports { AddsReports F.Folder reports.old reports.new }
 {
     if let Err(stopped) = check_names(folder, alloc, reports, names, read) {
         return Err(stopped);
@@ -99,7 +99,7 @@ fn check_names<F: Folder>(
         (unfit_name (F.apart folder.now) (names_read F.Name.text read.now)
         (F.Name.text names.now.temporary) (F.Name.text names.now.name))
         None (F.Name.text names.now.temporary) (F.Name.text names.now.name) ⊥ stopped) }
-    ensures reports { AddsReports F.reports_are_right (F.agree reports.old) (F.agree reports.new) }
+    ensures reports { AddsReports F.Folder reports.old reports.new }
 {
     if !is_final_name(names.name.as_str()) {
         return Err(Stopped::cannot_open(alloc, names.name.as_str()));
@@ -127,7 +127,7 @@ fn is_temporary_apart<F: Folder>(
         → is ≡ (are_all_apart_from (F.apart folder.now) (names_read F.Name.text read.now)
         (F.Name.text names.now.temporary)
         && F.apart folder.now (F.Name.text names.now.name) (F.Name.text names.now.temporary))) }
-    ensures reports { AddsReports F.reports_are_right (F.agree reports.old) (F.agree reports.new) }
+    ensures reports { AddsReports F.Folder reports.old reports.new }
 {
     let are_apart = are_all_apart(folder, alloc, reports, read, &names.temporary)?;
     if !are_apart {
@@ -158,7 +158,7 @@ fn check_not_special<F: Folder>(
     ensures err { IfErr result (λ stopped. F.agree reports.new ≡ true
         → IsNotReplaced (F.Name.text name.now)
         ((is_special (F.holds folder.now (F.Name.text name.now)) ≡ true) ⊎ F.can_refuse) stopped) }
-    ensures reports { AddsReports F.reports_are_right (F.agree reports.old) (F.agree reports.new) }
+    ensures reports { AddsReports F.Folder reports.old reports.new }
 {
     match folder.look(alloc, reports, name) {
         Ok(Look::Other) => Err(Stopped::cannot_open(alloc, name.as_str())),
@@ -192,7 +192,7 @@ fn make_file<F: Folder>(
         → (n : List ℕ) → F.holds folder.new n ≡ F.holds folder.old n) }
     ensures calls { MakesFile F.removes F.creates (F.Name.text name.now) (is_ok result) folder.old
         folder.new }
-    ensures reports { AddsReports F.reports_are_right (F.agree reports.old) (F.agree reports.new) }
+    ensures reports { AddsReports F.Folder reports.old reports.new }
 {
     if let Err(why) = clear_leftover(folder, alloc, reports, name) {
         return Err(why);

@@ -1,5 +1,5 @@
 //! A new index, which replaces an old one.
-ghost use Rattle.std.specs.Prelude.{◌≡◌, All, map, string_bytes};
+ghost use Rattle.std.specs.Prelude.{⊤, ◌≡◌, All, map, string_bytes};
 ghost use Rattle.index_run.specs.ArchivesIndexed.{mboxes};
 ghost use Rattle.mail_index.specs.Tables.{IsPath};
 ghost use Rattle.mairix_run.specs.Tasks.Work.{Index};
@@ -31,6 +31,9 @@ impl<'a, F: Folder> Content<F> for NewIndex<'a, F> {
     ghost is_writable = { λ index. All IsPath (map string_bytes index.paths.now) };
 
     ghost work = { λ index bytes. Index (mboxes (map string_bytes index.paths.now) bytes) };
+
+    // Each archive may be in any state.
+    ghost are_found = { λ _ _ _. ⊤ };
 
     /// An index takes the place of an index or of an empty file, and of no other.
     fn check_old(

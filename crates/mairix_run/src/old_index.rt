@@ -2,7 +2,7 @@
 //!
 //! It is an index, or empty (decision 94 in docs/DECISIONS.md).
 ghost use Rattle.std.specs.Prelude.{◌≡◌, ◌⊎◌, true, false, IfErr, OnOk};
-ghost use Rattle.named_files.specs.Reported.{AddsReports};
+ghost use Rattle.named_files.specs.AddedReports.{AddsReports};
 ghost use Rattle.mairix_run.specs.OldIndexes.{is_foreign, is_replaceable, IsNotReplaced};
 
 use crate::named_file::{Reading, read_named};
@@ -34,7 +34,7 @@ pub fn check_old_index<F: Folder>(
         ((is_foreign (F.holds folder.now (F.Name.text name.now)) ≡ true)
         ⊎ (F.can_refuse ⊎ F.reads_can_fail))
         stopped) }
-    ensures reports { AddsReports F.reports_are_right (F.agree reports.old) (F.agree reports.new) }
+    ensures reports { AddsReports F.Folder reports.old reports.new }
 {
     let path = name.as_str();
     let look = folder.look(alloc, reports, name);

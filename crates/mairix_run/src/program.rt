@@ -1,10 +1,11 @@
 //! A whole run.
 
-ghost use Rattle.std.specs.Prelude.{◌≡◌, ◌≢◌, ◌⊎◌, ◌<◌, ◌≤◌, ◌+◌, ◌-◌, ◌^◌, ◌∷◌, ℕ, List, true, false, None, Some, Ok, Err, All, length, map, vec_len, IfErr, OnOk, OnErr, IfOk, string_bytes};
+ghost use Rattle.std.specs.Prelude.{◌≡◌, ◌≢◌, ◌⊎◌, ◌<◌, ◌≤◌, ◌+◌, ◌-◌, ◌^◌, ◌∷◌, ◌++◌, ℕ, List, true, false, None, Some, Ok, Err, All, length, map, vec_len, IfErr, OnOk, OnErr, IfOk, string_bytes};
 ghost use Rattle.mail_index.specs.Tables.{IsPath};
 ghost use Rattle.mairix_options.specs.AnswerFiles.{answer_file};
 ghost use Rattle.mairix_options.specs.CommandLine.{plan as plan_asked};
 ghost use Rattle.mairix_run.specs.AskedNames.{AsksFor, AsksOnlyFor};
+ghost use Rattle.mairix_run.specs.FirstStates.{OnAnswer};
 ghost use Rattle.mairix_run.specs.NamesUsed.{names_asked, names_of_plan, names_of_words, names_planned, names_used, both_names};
 ghost use Rattle.mairix_run.specs.Reports.{ReportsEnding};
 ghost use Rattle.mairix_run.specs.Stops.{Ending, ending_of_result, ending_of_stopped};
@@ -13,10 +14,11 @@ ghost use Rattle.mairix_run.specs.Inside.RunParts.{Ran};
 ghost use Rattle.mairix_run.specs.WholeRuns.{CallsFor, IsTrouble, RunLeaves, Runs, file_made, is_left_alone, names_kept};
 ghost use Rattle.mairix_tool.specs.Asked.{wanted_of_words, asks};
 ghost use Rattle.named_archives.specs.Names.{files_of};
-ghost use Rattle.named_archives.specs.States.{AreStatesOf};
+ghost use Rattle.named_archives.specs.States.{AreStatesOf, IsInOneOf, noted_states};
 ghost use Rattle.named_files.specs.Crashes.{LeavesOnly};
 ghost use Rattle.named_files.specs.Entries.{SameWhere, bytes_of};
-ghost use Rattle.named_files.specs.Reported.{AddsReports};
+ghost use Rattle.named_files.specs.FoundStates.{AreFoundOnly, AreReadInFirstStates};
+ghost use Rattle.named_files.specs.AddedReports.{AddsReports};
 
 use crate::asked::Asked;
 use crate::command::Command;
@@ -71,7 +73,8 @@ pub fn run_program<F: Folder, T: Texts, O: Stream, E: Out>(
     // It reports how it ended, and returns the status of that. If what was reported agrees with what the files hold, it
     // did what words, rcfile and files ask for, or ended by the first refusal, or in trouble with one of the names that
     // it uses; and calls that fit this ending have changed files, in this order, and no other. What is said of its text,
-    // or of the fault of its work, holds if all reads agree too.
+    // or of the fault of its work, holds if all reads agree too. Whatever was reported: a search that has an answer read
+    // each archive only in a state in which it first found one.
     ensures run { (ended : Ending) × (printed : O)
         × ReportsEnding O.Out O.handed_on E.Out
         (T.is_usage_text texts.now (map string_bytes command.now.words.now)) T.memory_can_run_out
@@ -87,7 +90,10 @@ pub fn run_program<F: Folder, T: Texts, O: Stream, E: Out>(
         × CallsFor F.Folder (file_made
         (task_of (F.holds files.old.folder) (map string_bytes command.now.words.now)
         command.now.moment)) ended
-        files.old.folder files.new.folder) }
+        files.old.folder files.new.folder)
+        × OnAnswer (plan_asked (map string_bytes command.now.words.now)) ended
+        (AreReadInFirstStates (F.found files.old.reports) (F.found files.new.reports)
+        (F.found files.old.reads) (F.found files.new.reads)) }
     // Each file that is read is as it was, and so is each other one, but for the one that is made.
     ensures read { F.agree files.new.reports ≡ true
         → All (λ n. F.holds files.new.folder n ≡ F.holds files.old.folder n) (names_kept
@@ -106,10 +112,8 @@ pub fn run_program<F: Folder, T: Texts, O: Stream, E: Out>(
         (task_of (F.holds files.old.folder) (map string_bytes command.now.words.now)
         command.now.moment)) }
     ensures none { F.making files.new.folder ≡ None }
-    ensures reports { AddsReports F.reports_are_right (F.agree files.old.reports)
-        (F.agree files.new.reports) }
-    ensures reads { AddsReports F.reports_are_right (F.agree files.old.reads)
-        (F.agree files.new.reads) }
+    ensures reports { AddsReports F.Folder files.old.reports files.new.reports }
+    ensures reads { AddsReports F.Folder files.old.reads files.new.reads }
     // Whatever is reported: as long as all of it agrees, only names of the words and of the rcfile are made. No other name
     // is looked at, opened, made, renamed or removed.
     ensures named { AsksOnlyFor
@@ -142,12 +146,14 @@ fn run_words<F: Folder, O: Stream>(
         (task_of (F.holds files.old.folder) (map string_bytes command.now.words.now)
         command.now.moment)
         files.old.folder files.new.folder out.old out.new (ending_of_result result) }
+    ensures in_state { OnAnswer (plan_asked (map string_bytes command.now.words.now))
+        (ending_of_result result)
+        (AreReadInFirstStates (F.found files.old.reports) (F.found files.new.reports)
+        (F.found files.old.reads) (F.found files.new.reads)) }
     ensures none { F.making files.new.folder ≡ None }
     ensures count { O.failures out.new ≤ O.failures out.old + 1 }
-    ensures reports { AddsReports F.reports_are_right (F.agree files.old.reports)
-        (F.agree files.new.reports) }
-    ensures reads { AddsReports F.reports_are_right (F.agree files.old.reads)
-        (F.agree files.new.reads) }
+    ensures reports { AddsReports F.Folder files.old.reports files.new.reports }
+    ensures reads { AddsReports F.Folder files.old.reads files.new.reads }
 {
     let plan = match plan_of(files.alloc, command.words) {
         Ok(plan) => plan,
@@ -176,12 +182,13 @@ fn run_plan<F: Folder, O: Stream>(
         (task_of_plan (F.holds files.old.folder) (map string_bytes command.now.words.now)
         command.now.moment plan.now)
         files.old.folder files.new.folder out.old out.new (ending_of_result result) }
+    ensures in_state { is_index_run plan.now ≡ false → OnOk result
+        (AreReadInFirstStates (F.found files.old.reports) (F.found files.new.reports)
+        (F.found files.old.reads) (F.found files.new.reads)) }
     ensures none { F.making files.new.folder ≡ None }
     ensures count { O.failures out.new ≤ O.failures out.old + 1 }
-    ensures reports { AddsReports F.reports_are_right (F.agree files.old.reports)
-        (F.agree files.new.reports) }
-    ensures reads { AddsReports F.reports_are_right (F.agree files.old.reads)
-        (F.agree files.new.reads) }
+    ensures reports { AddsReports F.Folder files.old.reports files.new.reports }
+    ensures reads { AddsReports F.Folder files.old.reads files.new.reads }
 {
     let alloc = files.alloc;
     let path = plan.rcfile.as_str();
@@ -230,12 +237,13 @@ fn run_asked<F: Folder, O: Stream>(
         (asks asked.entry.now.words.now asked.entry.now.text.now asked.entry.now.now)
         asked.entry.now.plan.now asked.entry.now.rc.now)
         files.old.folder files.new.folder out.old out.new (ending_of_result result) }
+    ensures in_state { is_index_run asked.entry.now.plan.now ≡ false → OnOk result
+        (AreReadInFirstStates (F.found files.old.reports) (F.found files.new.reports)
+        (F.found files.old.reads) (F.found files.new.reads)) }
     ensures none { F.making files.new.folder ≡ None }
     ensures count { O.failures out.new ≤ O.failures out.old + 1 }
-    ensures reports { AddsReports F.reports_are_right (F.agree files.old.reports)
-        (F.agree files.new.reports) }
-    ensures reads { AddsReports F.reports_are_right (F.agree files.old.reads)
-        (F.agree files.new.reads) }
+    ensures reports { AddsReports F.Folder files.old.reports files.new.reports }
+    ensures reads { AddsReports F.Folder files.old.reads files.new.reads }
 {
     let Asked {
         plan,
@@ -291,12 +299,14 @@ fn states_of<F: Folder>(
     ensures states { IfOk result (λ states. AreStatesOf F.File.state_found F.File.rest
         (files_of F.Name.text (F.holds folder.now) names.now) states.items) }
     ensures count { IfOk result (λ states. vec_len states ≡ length names.now) }
+    ensures found { IfOk result (λ states. F.found reports.new
+        ≡ noted_states states.items ++ F.found reports.old) }
     ensures err { IfErr result (λ stopped. F.agree reports.new ≡ true
         → (files_at (F.holds folder.now) (map F.Name.text names.now)
         ≡ Err (ending_of_stopped stopped))
         ⊎ IsTrouble (map F.Name.text names.now) F.can_refuse F.reads_can_fail
         (ending_of_stopped stopped)) }
-    ensures reports { AddsReports F.reports_are_right (F.agree reports.old) (F.agree reports.new) }
+    ensures reports { AddsReports F.Folder reports.old reports.new }
 {
     match first_states(folder, alloc, reports, names) {
         Ok(states) => Ok(states),
@@ -330,12 +340,12 @@ fn search_stored<F: Folder, O: Stream>(
         (asks asked.entry.now.words.now asked.entry.now.text.now asked.entry.now.now)
         asked.entry.now.plan.now asked.entry.now.rc.now bytes)
         files.old.folder files.new.folder out.old out.new (ending_of_result result) }
+    ensures in_state { OnOk result (AreFoundOnly (IsInOneOf states.now)
+        (F.found files.old.reads) (F.found files.new.reads)) }
     ensures none { F.making files.new.folder ≡ None }
     ensures count { O.failures out.new ≤ O.failures out.old + 1 }
-    ensures reports { AddsReports F.reports_are_right (F.agree files.old.reports)
-        (F.agree files.new.reports) }
-    ensures reads { AddsReports F.reports_are_right (F.agree files.old.reads)
-        (F.agree files.new.reads) }
+    ensures reports { AddsReports F.Folder files.old.reports files.new.reports }
+    ensures reads { AddsReports F.Folder files.old.reads files.new.reads }
 {
     let database = &asked.names.database;
     let alloc = files.alloc;

@@ -2,7 +2,7 @@
 ghost use Rattle.std.specs.Prelude.{◌≡◌, true, IfOk};
 ghost use Rattle.std.specs.List.{list_all};
 ghost use Rattle.std.specs.Option.{option_map_or};
-ghost use Rattle.named_files.specs.Reported.{AddsReports};
+ghost use Rattle.named_files.specs.AddedReports.{AddsReports};
 ghost use Rattle.mairix_run.specs.ReadFiles.{are_all_apart as are_all_apart_from, names_read};
 
 use named_files::Folder;
@@ -35,7 +35,7 @@ pub fn are_all_apart<F: Folder>(
     ensures exact { IfOk result (λ are. F.agree reports.new ≡ true
         → are ≡ are_all_apart_from (F.apart folder.now) (names_read F.Name.text read.now)
         (F.Name.text name.now)) }
-    ensures reports { AddsReports F.reports_are_right (F.agree reports.old) (F.agree reports.new) }
+    ensures reports { AddsReports F.Folder reports.old reports.new }
 {
     let is_apart = folder.is_apart(alloc, reports, read.rcfile, name)?;
     if !is_apart {
@@ -59,7 +59,7 @@ fn is_one_apart<F: Folder>(
     ensures exact { IfOk result (λ is. F.agree reports.new ≡ true → is ≡ option_map_or
         (λ read. F.apart folder.now (F.Name.text read.now) (F.Name.text name.now)) read.entry
         true) }
-    ensures reports { AddsReports F.reports_are_right (F.agree reports.old) (F.agree reports.new) }
+    ensures reports { AddsReports F.Folder reports.old reports.new }
 {
     match read {
         Some(read) => folder.is_apart(alloc, reports, read, name),
@@ -77,7 +77,7 @@ fn are_apart<F: Folder>(
 ) -> Result<bool, AllocError>
     ensures exact { IfOk result (λ are. F.agree reports.new ≡ true → are ≡ list_all
         (λ read. F.apart folder.now (F.Name.text read) (F.Name.text name.now)) read.now) }
-    ensures reports { AddsReports F.reports_are_right (F.agree reports.old) (F.agree reports.new) }
+    ensures reports { AddsReports F.Folder reports.old reports.new }
 {
     for one in read {
         let is_apart = folder.is_apart(alloc, reports, one, name)?;

@@ -1,10 +1,10 @@
 //! A new file in the place of an old one.
-ghost use Rattle.std.specs.Prelude.{◌≡◌, ◌++◌, ℕ, List, true, None, Some, codes, map};
+ghost use Rattle.std.specs.Prelude.{◌≡◌, ◌++◌, ℕ, List, true, None, Some, codes, map, OnOk};
 ghost use Rattle.mairix_run.specs.Inside.RunParts.{ReplacesFile};
 ghost use Rattle.mairix_run.specs.ReadFiles.{names_read};
 ghost use Rattle.mairix_run.specs.Stops.{ending_of_result};
 ghost use Rattle.named_archives.specs.Names.{files_of};
-ghost use Rattle.named_files.specs.Reported.{AddsReports};
+ghost use Rattle.named_files.specs.AddedReports.{AddsReports};
 
 use crate::content::Content;
 use crate::file_names::NewNames;
@@ -43,11 +43,12 @@ pub(crate) fn replace_file<F: Folder, C: Content<F>>(
         (names_read F.Name.text read.now) (F.Name.text names.now.name) files.old.folder
         files.new.folder
         (ending_of_result result) }
+    // Whatever is reported: if it is written, the archives were found in the states in which they may be.
+    ensures in_state { OnOk result (C.are_found content.now (F.found files.old.reads)
+        (F.found files.new.reads)) }
     ensures none { F.making files.new.folder ≡ None }
-    ensures reports { AddsReports F.reports_are_right (F.agree files.old.reports)
-        (F.agree files.new.reports) }
-    ensures reads { AddsReports F.reports_are_right (F.agree files.old.reads)
-        (F.agree files.new.reads) }
+    ensures reports { AddsReports F.Folder files.old.reports files.new.reports }
+    ensures reads { AddsReports F.Folder files.old.reads files.new.reads }
 {
     if let Err(stopped) = content.check_old(&files.folder, &mut files.reports, &names.name) {
         return Err(stopped);

@@ -1,6 +1,6 @@
 //! A search, and where its answer goes.
 
-ghost use Rattle.std.specs.Prelude.{◌≡◌, ◌⊎◌, ◌<◌, ◌≤◌, ◌+◌, ◌-◌, ◌^◌, ◌&&◌, ◌∷◌, ⊤, ℕ, List, [], true, false, None, Some, Ok, All, length, map};
+ghost use Rattle.std.specs.Prelude.{◌≡◌, ◌⊎◌, ◌<◌, ◌≤◌, ◌+◌, ◌-◌, ◌^◌, ◌&&◌, ◌∷◌, ⊤, ℕ, List, [], true, false, None, Some, Ok, All, length, map, OnOk};
 ghost use Rattle.std.specs.Option.{option_map};
 ghost use Rattle.mairix_options.specs.AnswerFiles.{answer_file as answer_file_of};
 ghost use Rattle.mairix_run.specs.Inside.RunParts.{Ran};
@@ -11,9 +11,10 @@ ghost use Rattle.mairix_run.specs.WholeRuns.{WritesWork};
 ghost use Rattle.mairix_tool.specs.Asked.{asks};
 ghost use Rattle.named_archives.specs.Names.{files_of};
 ghost use Rattle.named_archives.specs.Progress.{CannotRead};
-ghost use Rattle.named_archives.specs.States.{AreStatesOf};
+ghost use Rattle.named_archives.specs.States.{AreStatesOf, IsInOneOf};
 ghost use Rattle.named_files.specs.Entries.{bytes_of};
-ghost use Rattle.named_files.specs.Reported.{AddsReports};
+ghost use Rattle.named_files.specs.FoundStates.{AreFoundOnly};
+ghost use Rattle.named_files.specs.AddedReports.{AddsReports};
 
 use crate::asked::Asked;
 use crate::content::Content;
@@ -59,12 +60,13 @@ pub(crate) fn run_search<F: Folder, O: Stream>(
         (asks asked.entry.now.words.now asked.entry.now.text.now asked.entry.now.now)
         (option_map (λ index. index.now) index.entry) bytes)))
         files.old.folder files.new.folder out.old out.new (ending_of_result result) }
+    // Whatever is reported: if there is an answer, each archive that was read was found in one of these states.
+    ensures in_state { OnOk result (AreFoundOnly (IsInOneOf states.now)
+        (F.found files.old.reads) (F.found files.new.reads)) }
     ensures none { F.making files.new.folder ≡ None }
     ensures count { O.failures out.new ≤ O.failures out.old + 1 }
-    ensures reports { AddsReports F.reports_are_right (F.agree files.old.reports)
-        (F.agree files.new.reports) }
-    ensures reads { AddsReports F.reports_are_right (F.agree files.old.reads)
-        (F.agree files.new.reads) }
+    ensures reports { AddsReports F.Folder files.old.reports files.new.reports }
+    ensures reads { AddsReports F.Folder files.old.reads files.new.reads }
 {
     let Asked {
         words,
@@ -106,6 +108,8 @@ impl<'a, F: Folder> Content<F> for Search<'a, F> {
         (asks search.words.now search.text.now search.moment)
         (option_map (λ index. index.now) search.index) bytes };
 
+    ghost are_found = { λ search. AreFoundOnly (IsInOneOf search.states.now) };
+
     /// An answer takes the place of any file.
     fn check_old(
         &self,
@@ -141,8 +145,10 @@ fn print_answer<F: Folder, O: Stream>(
         (search_work (asks search.now.words.now search.now.text.now search.now.moment)
         (option_map (λ index. index.now) search.now.index) bytes) out.old out.new
         (ending_of_result result) }
+    ensures in_state { OnOk result (AreFoundOnly (IsInOneOf search.now.states.now)
+        (F.found reports.old) (F.found reports.new)) }
     ensures count { O.failures out.new ≤ O.failures out.old + 1 }
-    ensures reports { AddsReports F.reports_are_right (F.agree reports.old) (F.agree reports.new) }
+    ensures reports { AddsReports F.Folder reports.old reports.new }
 {
     let written = search.write(folder, reports, out);
     status_or_stopped(flushed(written, out))

@@ -1,6 +1,6 @@
 -- What is held of the archives is the bytes of all files, so what the open file returned is of the archive with its
 -- number.
-use Rattle.std.proofs.Common.{◌≡◌, ◌∙◌, ◌&&◌, ℕ, zero, suc, Bool, true, false, List, [], ◌∷◌, length, take, All, Option, None, Some, IfSome, IsSome, is_some, Result, IfOk, OnOk, slice_get, refl, sym, ap, arith}
+use Rattle.std.proofs.Common.{◌≡◌, ◌∙◌, ◌&&◌, ℕ, zero, suc, Bool, true, false, List, [], ◌∷◌, length, take, All, Option, None, Some, IfSome, IsSome, is_some, Result, Ok, Err, IfOk, OnOk, slice_get, refl, sym, subst, ap, arith}
 use Rattle.std.specs.List.{AllByRecursion}
 use Rattle.std.specs.Option.{ForSome, option_map}
 use Rattle.std.proofs.lemmas.List.Elements.{recursion_from_All}
@@ -95,3 +95,9 @@ module _ {A S : Type 0} (agreed : Bool) (rest bytes : A → Option (List ℕ)) (
       → IfOk told (λ k. IsReadFromArchive n offset (take k into)
       (held_while (agreed && has_agreed rest bytes current) files))
   read-is told offset into current at in_state is = grind (arith, if-some, if-some-at, is-archive)
+
+-- what holds of a result at a number holds at the same number
+pub at-number : {T E : Type 0} (result : Result T E) (m n : ℕ) (P : ℕ → T → Type 0) → OnOk result (m ≡ n)
+    → IfOk result (P m) → IfOk result (P n)
+at-number (Ok x) m n P is h = subst (λ k. P k x) is h
+at-number (Err e) m n P is h = cc

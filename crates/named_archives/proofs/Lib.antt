@@ -2,5 +2,6 @@
 pub mod Failures
 pub mod Held
 pub mod Lists
+pub mod Noted
 pub mod Pieces
 pub mod States

@@ -10,6 +10,10 @@ use Rattle.std.proofs.lemmas.List.FromFn.{map-range_with_len_more}
 pub and-true : (a b : Bool) → (a && b) ≡ true → (a ≡ true) × (b ≡ true)
 and-true a b e = grind arith
 
+-- what agrees changes nothing
+pub and-right : (a b : Bool) → b ≡ true → (a && b) ≡ a
+and-right a b e = grind arith
+
 -- if two agree, the first one does
 pub first-true : (a b c : Bool) → c ≡ (a && b) → c ≡ true → a ≡ true
 first-true a b c is e = (and-true a b (sym is ∙ e)).0

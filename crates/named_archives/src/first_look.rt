@@ -1,11 +1,11 @@
 //! The states in which the files of some names are found first.
-ghost use Rattle.std.specs.Prelude.{◌≡◌, ◌⊎◌, ◌<◌, ◌+◌, ◌&&◌, List, true, Some, None, length, take, is_some, IfOk, IfErr, OnOk, vec_len, slice_get};
+ghost use Rattle.std.specs.Prelude.{◌≡◌, ◌⊎◌, ◌<◌, ◌+◌, ◌&&◌, ◌∷◌, ◌++◌, List, true, Some, None, length, take, is_some, IfOk, IfErr, OnOk, vec_len, slice_get};
 ghost use Rattle.std.specs.List.{list_all};
 ghost use Rattle.named_files.specs.Entries.{bytes_of};
 ghost use Rattle.named_files.specs.Refusals.{HasCause};
-ghost use Rattle.named_files.specs.Reported.{AddsReports};
+ghost use Rattle.named_files.specs.AddedReports.{AddsReports};
 ghost use Rattle.named_archives.specs.Names.{files_of};
-ghost use Rattle.named_archives.specs.States.{AreStatesOf, IsStateOf};
+ghost use Rattle.named_archives.specs.States.{AreStatesOf, IsStateOf, noted_states};
 
 use named_files::{Folder, KeptFile, Refusal};
 use std::alloc::Global;
@@ -37,7 +37,10 @@ pub fn first_states<F: Folder>(
     // If all reports agree, each name leads to a file.
     ensures noted { OnOk result (F.agree reports.new ≡ (F.agree reports.old
         && list_all (λ file. is_some file) (files_of F.Name.text (F.holds folder.now) names.now))) }
-    ensures reports { AddsReports F.reports_are_right (F.agree reports.old) (F.agree reports.new) }
+    // What is noted of the files is that they were found in these states, and no other file was given back.
+    ensures found { IfOk result (λ v. F.found reports.new
+        ≡ noted_states v.items ++ F.found reports.old) }
+    ensures reports { AddsReports F.Folder reports.old reports.new }
     ensures refused { IfErr result (λ e. (e.number < length names.now) × HasCause e.why
         ((slice_get (files_of F.Name.text (F.holds folder.now) names.now) e.number ≡ Some None)
         ⊎ F.can_refuse ⊎ F.reads_can_fail)) }
@@ -76,7 +79,8 @@ fn first_state<F: Folder>(
     ensures opened { (F.agree reports.new ≡ F.agree reports.old)
         ⊎ (F.agree reports.new ≡ (F.agree reports.old
         && is_some (bytes_of (F.holds folder.now (F.Name.text name.now))))) }
-    ensures right { F.reports_are_right → F.agree reports.new ≡ F.agree reports.old }
+    ensures found { IfOk result (λ state. F.found reports.new ≡ Some state ∷ F.found reports.old) }
+    ensures reports { AddsReports F.Folder reports.old reports.new }
     ensures refused { IfErr result (λ why. HasCause why
         ((bytes_of (F.holds folder.now (F.Name.text name.now)) ≡ None) ⊎ F.can_refuse
         ⊎ F.reads_can_fail)) }

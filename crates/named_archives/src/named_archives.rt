@@ -1,13 +1,17 @@
 //! The files of some names as archives, which are read at any place.
-ghost use Rattle.std.specs.Prelude.{⊤, ◌≡◌, ◌<◌, ◌≤◌, ◌-◌, ◌^◌, ◌&&◌, ◌↔◌, List, ℕ, true, None, Some, IsSome, All, map, length, take, slice_get, IfOk, IfSome, OnOk, OnErr};
+ghost use Rattle.std.specs.Prelude.{⊤, ◌≡◌, ◌<◌, ◌≤◌, ◌-◌, ◌^◌, ◌&&◌, ◌↔◌, ℕ, true, false, None, Some, IsSome, All, map, length, take, slice_get, IfOk, IfSome, OnOk, OnErr};
 ghost use Rattle.std.specs.Option.{ForSome};
+ghost use Rattle.std.proofs.Props.{props};
 ghost use Rattle.contract_words.specs.Archives.{IsLength, IsReadFromArchive};
-ghost use Rattle.contract_words.specs.Devices.{Counts};
+ghost use Rattle.contract_words.specs.Devices.{Counted, Counts};
 ghost use Rattle.contract_words.specs.Knowledge.{WasKnown};
 ghost use Rattle.named_files.specs.Entries.{IsReadFromFile};
+ghost use Rattle.named_files.specs.AddedReports.{AddsReports};
+ghost use Rattle.named_files.specs.FoundStates.{AreFoundOnly};
 ghost use Rattle.named_files.specs.Reported.{AddsReport};
 ghost use Rattle.named_archives.specs.Names.{files_of, held_while, IsFileAt, IsInState, IsStillOpen};
 ghost use Rattle.named_archives.specs.Progress.{has_agreed, is_for_memory, FailsFor};
+ghost use Rattle.named_archives.specs.States.{IsInOneOf};
 
 use crate::read_ahead::ReadAhead;
 use mail_answer::Archives;
@@ -48,6 +52,12 @@ pub struct NamedArchives<'p, F: Folder> {
     ghost failed: { 0 < failures → FailsFor refused
         (All IsSome (files_of F.Name.text (F.holds folder.now) names.now)) F.can_refuse
         F.reads_can_fail },
+    // As long as no call has failed, each file was found in its state after it was read: the open one, and all that were
+    // closed.
+    ghost in_state: { failures ≡ 0
+        → ForSome current (λ a. F.File.state_found a.file ≡ Some a.state) },
+    ghost closed_in_state: { failures ≡ 0
+        → All (IsInOneOf states.now) (F.found closed) } by { Prim.hlevel props },
 }
 
 impl<'p, F: Folder> NamedArchives<'p, F> {
@@ -104,6 +114,10 @@ impl<'p, F: Folder> NamedArchives<'p, F> {
         ensures known { F.agree reports.new ≡ true
             → All IsSome (files_of F.Name.text (F.holds self.entry.folder.now) self.entry.names.now)
             → IsSome (⟦<NamedArchives<'p, F> as Archives>⟧.held self.entry) }
+        // If no call has failed, each file was found in one of the states, and that is noted.
+        ensures in_state { self.entry.failures ≡ 0 → AreFoundOnly (IsInOneOf self.entry.states.now)
+            (F.found reports.old) (F.found reports.new) }
+        ensures reports { AddsReports F.Folder reports.old reports.new }
     {
         self.close_open();
         let NamedArchives { folder, closed, .. } = self;
@@ -128,33 +142,23 @@ impl<'p, F: Folder> NamedArchives<'p, F> {
 }
 
 impl<'p, F: Folder> NamedArchives<'p, F> {
-    /// Opens the file with this number, if it isn't open. Another one that is open is closed before.
-    fn turn_to(&mut self, n: u32) -> Result<(), DeviceFault>
-        requires below { n < length self.old.names.now }
-        requires count { self.old.failures < 2 ^ 64 - 1 }
-        ensures opened { OnOk result ((self.new.number ≡ n) × IsSome self.new.current) }
-        ensures agreed { (F.agree self.new.closed && has_agreed (λ a. F.File.rest a.file)
-            (λ a. F.File.bytes a.file) self.new.current) ≡ true
-            → (F.agree self.old.closed && has_agreed (λ a. F.File.rest a.file)
-            (λ a. F.File.bytes a.file) self.old.current) ≡ true }
-        ensures same { (self.new.folder.now ≡ self.old.folder.now)
-            × (self.new.names.now ≡ self.old.names.now)
-            × (self.new.states.now ≡ self.old.states.now) }
-        ensures count { Counts result self.old.failures self.new.failures }
+    /// Whether the file with this number is open.
+    fn is_open(&self, n: u32) -> bool
+        ensures { result ≡ true → (self.now.number ≡ n) × IsSome self.now.current }
     {
-        if self.number == n && self.current.is_some() {
-            return Ok(());
-        }
-        self.close_open();
-        self.open_file(n)
+        self.number == n && self.current.is_some()
     }
 
     /// Opens the file with this number. It has to be a plain file, since no other has a length or is read at any place.
-    fn open_file(&mut self, n: u32) -> Result<(), DeviceFault>
+    fn open_file(&mut self, n: u32) -> Result<ReadAhead<F::File>, DeviceFault>
         requires none { self.old.current ≡ None }
         requires below { n < length self.old.names.now }
         requires count { self.old.failures < 2 ^ 64 - 1 }
-        ensures opened { OnOk result ((self.new.number ≡ n) × IsSome self.new.current) }
+        ensures opened { IfOk result (λ a. IsFileAt
+            (files_of F.Name.text (F.holds self.old.folder.now) self.old.names.now)
+            self.old.states.now n (F.File.bytes a.file) a.state) }
+        ensures fresh { IfOk result (λ a. F.File.failures a.file ≡ 0) }
+        ensures none { self.new.current ≡ None }
         ensures closed { self.new.closed ≡ self.old.closed }
         ensures same { (self.new.folder.now ≡ self.old.folder.now)
             × (self.new.names.now ≡ self.old.names.now)
@@ -162,18 +166,36 @@ impl<'p, F: Folder> NamedArchives<'p, F> {
         ensures count { Counts result self.old.failures self.new.failures }
     {
         match self.folder.open_plain(self.alloc, &self.names[n as usize]) {
-            Ok(file) => {
-                let ahead = ReadAhead::new(self.alloc, file, self.states[n as usize]);
-                self.number = n;
-                self.current = Some(ahead);
-                Ok(())
-            }
+            Ok(file) => { Ok(ReadAhead::new(self.alloc, file, self.states[n as usize])) }
             Err(why) => {
                 self.refused = Some(why);
                 self.failures += 1;
                 Err(DeviceFault)
             }
         }
+    }
+
+    /// Keeps a file that was opened, and then read or looked at for its length; whether that failed is given.
+    fn keep(&mut self, n: u32, ahead: ReadAhead<F::File>, has_failed: bool)
+        requires none { self.old.current ≡ None }
+        requires opened { IsFileAt
+            (files_of F.Name.text (F.holds self.old.folder.now) self.old.names.now)
+            self.old.states.now n (F.File.bytes ahead.file) ahead.state }
+        requires counted { Counted has_failed 0 (F.File.failures ahead.file) }
+        requires in_state { has_failed ≡ false → F.File.state_found ahead.file ≡ Some ahead.state }
+        requires count { self.old.failures < 2 ^ 64 - 1 }
+        ensures kept { (self.new.number ≡ n) × (self.new.current ≡ Some ahead) }
+        ensures closed { self.new.closed ≡ self.old.closed }
+        ensures same { (self.new.folder.now ≡ self.old.folder.now)
+            × (self.new.names.now ≡ self.old.names.now)
+            × (self.new.states.now ≡ self.old.states.now) }
+        ensures count { Counted has_failed self.old.failures self.new.failures }
+    {
+        if has_failed {
+            self.failures += 1;
+        }
+        self.number = n;
+        self.current = Some(ahead);
     }
 }
 
@@ -188,8 +210,10 @@ impl<'p, F: Folder> Archives for NamedArchives<'p, F> {
 
     ghost lengths_asked = { λ _. 0 };
 
-    ghost whole = { λ a archives. files_of F.Name.text (F.holds a.folder.now) a.names.now
-        ≡ map Some archives };
+    // Each has to be in the same state.
+    ghost was = { λ a first. (files_of F.Name.text (F.holds a.folder.now) a.names.now
+        ≡ files_of F.Name.text (F.holds first.folder.now) first.names.now)
+        × (a.states.now ≡ first.states.now) };
 
     // Nothing carries a record of calls.
     ghost measures = { λ _ _ _ _. ⊤ };
@@ -210,11 +234,8 @@ impl<'p, F: Folder> Archives for NamedArchives<'p, F> {
             (held_while (F.agree self.new.closed && has_agreed (λ a. F.File.rest a.file)
             (λ a. F.File.bytes a.file) self.new.current)
             (files_of F.Name.text (F.holds self.new.folder.now) self.new.names.now)) }
-        ensures whole { (archives : List (List ℕ))
-            → files_of F.Name.text (F.holds self.old.folder.now) self.old.names.now
-            ≡ map Some archives
-            → files_of F.Name.text (F.holds self.new.folder.now) self.new.names.now
-            ≡ map Some archives }
+        ensures files { files_of F.Name.text (F.holds self.new.folder.now) self.new.names.now
+            ≡ files_of F.Name.text (F.holds self.old.folder.now) self.old.names.now }
         ensures number { length self.new.names.now ≡ length self.old.names.now }
         ensures bytes { IfOk result (λ bytes. IsLength n bytes
             (held_while (F.agree self.new.closed && has_agreed (λ a. F.File.rest a.file)
@@ -226,8 +247,10 @@ impl<'p, F: Folder> Archives for NamedArchives<'p, F> {
         ensures states { self.new.states.now ≡ self.old.states.now }
         ensures count { Counts result self.old.failures self.new.failures }
     {
-        self.turn_to(n)?;
-        self.length_here()
+        if self.is_open(n) {
+            return self.length_here();
+        }
+        self.length_first(n)
     }
 
     fn read_at(&mut self, n: u32, offset: u64, into: &mut [u8]) -> Result<usize, DeviceFault>
@@ -241,11 +264,8 @@ impl<'p, F: Folder> Archives for NamedArchives<'p, F> {
             (held_while (F.agree self.new.closed && has_agreed (λ a. F.File.rest a.file)
             (λ a. F.File.bytes a.file) self.new.current)
             (files_of F.Name.text (F.holds self.new.folder.now) self.new.names.now)) }
-        ensures whole { (archives : List (List ℕ))
-            → files_of F.Name.text (F.holds self.old.folder.now) self.old.names.now
-            ≡ map Some archives
-            → files_of F.Name.text (F.holds self.new.folder.now) self.new.names.now
-            ≡ map Some archives }
+        ensures files { files_of F.Name.text (F.holds self.new.folder.now) self.new.names.now
+            ≡ files_of F.Name.text (F.holds self.old.folder.now) self.old.names.now }
         ensures number { length self.new.names.now ≡ length self.old.names.now }
         ensures bound { IfOk result (λ bytes. bytes ≤ length into.new) }
         ensures bytes { IfOk result (λ bytes. IsReadFromArchive n offset (take bytes into.new)
@@ -258,12 +278,66 @@ impl<'p, F: Folder> Archives for NamedArchives<'p, F> {
         ensures states { self.new.states.now ≡ self.old.states.now }
         ensures count { Counts result self.old.failures self.new.failures }
     {
-        self.turn_to(n)?;
-        self.read_here(offset, into)
+        if self.is_open(n) {
+            return self.read_here(offset, into);
+        }
+        self.read_first(n, offset, into)
     }
 }
 
 impl<'p, F: Folder> NamedArchives<'p, F> {
+    /// Opens the file with this number, and asks it for its length. Another one that is open is closed before.
+    fn length_first(&mut self, n: u32) -> Result<u64, DeviceFault>
+        requires below { n < length self.old.names.now }
+        requires count { self.old.failures < 2 ^ 64 - 1 }
+        ensures agreed { (F.agree self.new.closed && has_agreed (λ a. F.File.rest a.file)
+            (λ a. F.File.bytes a.file) self.new.current) ≡ true
+            → (F.agree self.old.closed && has_agreed (λ a. F.File.rest a.file)
+            (λ a. F.File.bytes a.file) self.old.current) ≡ true }
+        ensures bytes { IfOk result (λ n. IfSome self.new.current (λ a.
+            IfSome (F.File.bytes a.file) (λ all. n ≡ length all))) }
+        ensures number { OnOk result (self.new.number ≡ n) }
+        ensures in_state { OnOk result (IsInState (λ a. F.File.state_found a.file)
+            self.new.states.now self.new.number self.new.current) }
+        ensures same { (self.new.folder.now ≡ self.old.folder.now)
+            × (self.new.names.now ≡ self.old.names.now)
+            × (self.new.states.now ≡ self.old.states.now) }
+        ensures count { Counts result self.old.failures self.new.failures }
+    {
+        self.close_open();
+        let mut ahead = self.open_file(n)?;
+        let length = ahead.length();
+        self.keep(n, ahead, length.is_err());
+        length
+    }
+
+    /// Opens the file with this number, and reads it from an offset on. Another one that is open is closed before.
+    fn read_first(&mut self, n: u32, offset: u64, into: &mut [u8]) -> Result<usize, DeviceFault>
+        requires below { n < length self.old.names.now }
+        requires room { 0 < length into.old }
+        requires count { self.old.failures < 2 ^ 64 - 1 }
+        ensures agreed { (F.agree self.new.closed && has_agreed (λ a. F.File.rest a.file)
+            (λ a. F.File.bytes a.file) self.new.current) ≡ true
+            → (F.agree self.old.closed && has_agreed (λ a. F.File.rest a.file)
+            (λ a. F.File.bytes a.file) self.old.current) ≡ true }
+        ensures bound { IfOk result (λ n. n ≤ length into.new) }
+        ensures bytes { IfOk result (λ n. IfSome self.new.current (λ a.
+            IsReadFromFile offset (take n into.new) (F.File.bytes a.file))) }
+        ensures number { OnOk result (self.new.number ≡ n) }
+        ensures in_state { OnOk result (IsInState (λ a. F.File.state_found a.file)
+            self.new.states.now self.new.number self.new.current) }
+        ensures same { (self.new.folder.now ≡ self.old.folder.now)
+            × (self.new.names.now ≡ self.old.names.now)
+            × (self.new.states.now ≡ self.old.states.now) }
+        ensures count { Counts result self.old.failures self.new.failures }
+    {
+        self.close_open();
+        let mut ahead = self.open_file(n)?;
+        let read = ahead.read(offset, into);
+        self.keep(n, ahead, read.is_err());
+        read
+    }
+
     /// Asks the open file for its length.
     fn length_here(&mut self) -> Result<u64, DeviceFault>
         requires opened { IsSome self.old.current }

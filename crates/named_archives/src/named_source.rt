@@ -1,15 +1,17 @@
 //! The file of a name as a source, open only while it is read.
 //!
 //! One file is open at a time, so few descriptors are enough (decision 19 in docs/DECISIONS.md).
-ghost use Rattle.std.specs.Prelude.{◌≡◌, ◌⊎◌, false, ◌<◌, ◌≤◌, ◌+◌, ◌-◌, ◌^◌, ◌&&◌, ℕ, List, length, map, true, None, Some, IsSome, All, IfOk, IfErr, IfSome, OnOk, OnErr, vec_len, slice_get};
+ghost use Rattle.std.specs.Prelude.{◌≡◌, ◌⊎◌, false, ◌<◌, ◌≤◌, ◌+◌, ◌-◌, ◌^◌, ◌&&◌, ◌∷◌, ◌++◌, [], ℕ, List, length, map, true, None, Some, IsSome, All, IfOk, IfErr, IfSome, OnOk, OnErr, vec_len, slice_get};
 ghost use Rattle.std.specs.List.{list_all, list_any, range_with_len};
 ghost use Rattle.std.specs.Option.{ForSome};
 ghost use Rattle.std.specs.Io.KnownBytes.{ReadConsumes};
 ghost use Rattle.contract_words.specs.Devices.{Counted, Counts};
 ghost use Rattle.contract_words.specs.Knowledge.{still_known};
 ghost use Rattle.named_files.specs.Entries.{bytes_of};
+ghost use Rattle.named_files.specs.AddedReports.{AddsReports};
 ghost use Rattle.named_files.specs.Reported.{AddsReport};
 ghost use Rattle.named_archives.specs.Progress.{bytes_left_in, has_agreed, is_for_memory, FailsFor, HasFailed, HasReached, IsFoundInState, IsReadIn, IsRefusedFor};
+ghost use Rattle.named_archives.specs.States.{noted_files};
 
 use mbox_cutter::{DeviceFault, Source};
 use named_files::{Folder, KeptFile, Refusal};
@@ -53,6 +55,8 @@ pub struct NamedSource<'p, F: Folder> {
     ghost failed: { 0 < failures → FailsFor refused
         (IsSome (bytes_of (F.holds folder.now (F.Name.text name.now)))) F.can_refuse
         F.reads_can_fail },
+    // As long as no call has failed, an open file was found in its state after it was read.
+    ghost in_state: { failures ≡ 0 → ForSome file (IsFoundInState F.File.state_found state) },
 }
 
 impl<'p, F: Folder> NamedSource<'p, F> {
@@ -99,6 +103,9 @@ impl<'p, F: Folder> NamedSource<'p, F> {
         // If all reports agree, the source's bytes stayed known.
         ensures known { F.agree reports.new ≡ true → self.entry.failures ≡ 0
             → IsSome self.entry.file → IsSome (⟦<NamedSource<'p, F> as Source>⟧.rest self.entry) }
+        // The state in which the file was found is noted.
+        ensures found { F.found reports.new
+            ≡ noted_files F.File.state_found (self.entry.file ∷ []) ++ F.found reports.old }
     {
         let NamedSource { folder, file, .. } = self;
         if let Some(file) = file {
@@ -107,26 +114,20 @@ impl<'p, F: Folder> NamedSource<'p, F> {
     }
 
     /// Opens the file, which is read from its front.
-    fn open_file(&mut self) -> Result<(), DeviceFault>
+    fn open_file(&mut self) -> Result<F::File, DeviceFault>
         requires closed { self.old.file ≡ None }
         requires count { self.old.failures < 2 ^ 64 - 1 }
-        ensures opened { OnOk result (IsSome self.new.file) }
-        ensures closed { OnErr result (self.new.file ≡ None) }
+        ensures rest { IfOk result (λ file. F.File.rest file
+            ≡ bytes_of (F.holds self.old.folder.now (F.Name.text self.old.name.now))) }
+        ensures fresh { IfOk result (λ file. F.File.failures file ≡ 0) }
+        ensures closed { self.new.file ≡ None }
         ensures refused { OnErr result (IsSome self.new.refused) }
-        ensures rest { bytes_left_in F.File.rest (bytes_of
-            (F.holds self.old.folder.now (F.Name.text self.old.name.now)))
-            self.new.file self.new.progress
-            ≡ bytes_of (F.holds self.old.folder.now (F.Name.text self.old.name.now)) }
         ensures same { (self.new.folder.now ≡ self.old.folder.now)
             × (self.new.name.now ≡ self.old.name.now) × (self.new.state ≡ self.old.state) }
         ensures count { Counts result self.old.failures self.new.failures }
     {
         match self.folder.open(self.alloc, self.name) {
-            Ok(file) => {
-                self.file = Some(file);
-                self.progress = Progress::Going;
-                Ok(())
-            }
+            Ok(file) => Ok(file),
             Err(why) => {
                 self.refused = Some(why);
                 self.failures += 1;
@@ -137,6 +138,38 @@ impl<'p, F: Folder> NamedSource<'p, F> {
 }
 
 impl<'p, F: Folder> NamedSource<'p, F> {
+    /// Reads the first bytes of the file, which has just been opened. It is kept once it was compared with its state.
+    fn read_first(&mut self, file: F::File, into: &mut [u8]) -> Result<usize, DeviceFault>
+        requires closed { self.old.file ≡ None }
+        requires rest { F.File.rest file
+            ≡ bytes_of (F.holds self.old.folder.now (F.Name.text self.old.name.now)) }
+        requires fresh { F.File.failures file ≡ 0 }
+        requires room { 0 < length into.old }
+        requires count { self.old.failures < 2 ^ 64 - 1 }
+        ensures bound { IfOk result (λ n. n ≤ length into.new) }
+        ensures bytes { let all = bytes_of
+            (F.holds self.old.folder.now (F.Name.text self.old.name.now)) in
+            let new = bytes_left_in F.File.rest all self.new.file self.new.progress in
+            ReadConsumes (still_known all new) new result into.new }
+        ensures known { let all = bytes_of
+            (F.holds self.old.folder.now (F.Name.text self.old.name.now)) in
+            IsSome (bytes_left_in F.File.rest all self.new.file self.new.progress) → IsSome all }
+        ensures count { Counts result self.old.failures self.new.failures }
+        ensures same { (self.new.folder.now ≡ self.old.folder.now)
+            × (self.new.name.now ≡ self.old.name.now) × (self.new.state ≡ self.old.state) }
+        ensures in_state { OnOk result (IsReadIn F.File.state_found self.new.state self.new.file) }
+        ensures failed { OnErr result (HasFailed F.File.failures self.new.file self.new.refused) }
+    {
+        let mut file = file;
+        self.progress = Progress::Going;
+        let read = read_on(&mut file, &mut self.progress, self.state, into);
+        if read.is_err() {
+            self.failures += 1;
+        }
+        self.file = Some(file);
+        read
+    }
+
     /// Reads on in the file, which is open or was read to its end.
     fn read_opened(&mut self, into: &mut [u8]) -> Result<usize, DeviceFault>
         requires opened { IsSome self.old.file }
@@ -179,6 +212,9 @@ impl<'p, F: Folder> Source for NamedSource<'p, F> {
     ghost whole = { λ s bytes. bytes_of (F.holds s.folder.now (F.Name.text s.name.now))
         ≡ Some bytes };
 
+    // It has to be in the same state.
+    ghost was = { λ s first. s.state ≡ first.state };
+
     fn read_next(&mut self, into: &mut [u8]) -> Result<usize, DeviceFault>
         requires room { 0 < length into.old }
         requires count { self.old.failures < 2 ^ 64 - 1 }
@@ -208,7 +244,8 @@ impl<'p, F: Folder> Source for NamedSource<'p, F> {
         ensures failed { OnErr result (HasFailed F.File.failures self.new.file self.new.refused) }
     {
         if self.file.is_none() {
-            self.open_file()?;
+            let file = self.open_file()?;
+            return self.read_first(file, into);
         }
         self.read_opened(into)
     }
@@ -322,6 +359,11 @@ pub fn report_all<F: Folder>(sources: Vec<NamedSource<F>>, reports: &mut F::Repo
         → IsSome (bytes_left_in F.File.rest
         (bytes_of (F.holds s.folder.now (F.Name.text s.name.now))) s.file
         s.progress)) sources.entry.items }
+    // The states in which the files were found are noted, in order.
+    ensures found { F.found reports.new
+        ≡ noted_files F.File.state_found (map (λ s. s.file) sources.entry.items)
+        ++ F.found reports.old }
+    ensures reports { AddsReports F.Folder reports.old reports.new }
 {
     for source in sources {
         source.report(reports);

@@ -47,8 +47,3 @@ creation_agrees false entry = true
 pub record AddsReport (are_right : Type 0) (agrees before after : Bool) : Type 0 where
   pub noted : after ≡ (before && agrees)
   pub right : are_right → after ≡ before
-
--- Reports are added. All agree only if those before do, and as they do if all reports are right.
-pub record AddsReports (are_right : Type 0) (before after : Bool) : Type 0 where
-  pub earlier : after ≡ true → before ≡ true
-  pub right : are_right → after ≡ before

@@ -1,5 +1,5 @@
 //! Files by their names.
-ghost use Rattle.std.specs.Prelude.{◌≡◌, ◌≢◌, ◌⊎◌, ◌<◌, ◌≤◌, ◌-◌, ◌^◌, ◌&&◌, ◌∷◌, ℕ, Bool, true, false, List, [], Option, None, Some, is_some, is_ok, IfOk, IfErr, IfSome, IsSome, OnOk, OnErr};
+ghost use Rattle.std.specs.Prelude.{◌≡◌, ◌≢◌, ◌⊎◌, ◌<◌, ◌≤◌, ◌-◌, ◌^◌, ◌&&◌, ◌∷◌, ◌++◌, ℕ, Bool, true, false, List, [], Option, None, Some, is_some, is_ok, IfOk, IfErr, IfSome, IsSome, OnOk, OnErr};
 ghost use Rattle.std.specs.Result.{MatchResult};
 ghost use Rattle.contract_words.specs.Devices.{Counts};
 ghost use Rattle.named_files.specs.Entries.{Entry, Nothing, IsFileOf, bytes_of, Leads};
@@ -45,6 +45,10 @@ pub trait Folder {
 
     /// Whether all of it agrees with what is so, or is supposed to be so.
     ghost agree: { Self.Reports → Bool };
+
+    /// The states in which the files that were given back were last found, the newest first; None for a file that wasn't
+    /// looked at since it was read. Each of them is what a call of the system returned, whatever is supposed of the files.
+    ghost found: { Self.Reports → List (Option Self.File.State) };
 
     /// The names that were made, the newest first; each with whether all that had been reported by then agreed.
     ghost made: { Self.Names → List (List ℕ × Bool) };
@@ -109,11 +113,13 @@ pub trait Folder {
 
     /// Returns reports of which there are none yet.
     fn no_reports(&self) -> Self::Reports
-        ensures { agree result ≡ true };
+        ensures agree { agree result ≡ true }
+        ensures found { found result ≡ [] };
 
     /// Adds more reports.
     fn add_reports(&self, reports: &mut Self::Reports, more: Self::Reports)
-        ensures { agree reports.new ≡ (agree reports.old && agree more) };
+        ensures agree { agree reports.new ≡ (agree reports.old && agree more) }
+        ensures found { found reports.new ≡ found more ++ found reports.old };
 
     /// Makes a name of a text, and notes that.
     fn name(
@@ -156,10 +162,12 @@ pub trait Folder {
         self.open(alloc, name)
     }
 
-    /// Closes a file that was opened here, and takes over what was reported of its bytes.
+    /// Closes a file that was opened here, and takes over what was reported of its bytes, and the state in which it was
+    /// found.
     fn take_back(&self, reports: &mut Self::Reports, file: Self::File)
-        ensures { agree reports.new ≡ (agree reports.old
-            && is_some (Self.File.rest file) && is_some (Self.File.bytes file)) };
+        ensures agree { agree reports.new ≡ (agree reports.old
+            && is_some (Self.File.rest file) && is_some (Self.File.bytes file)) }
+        ensures found { found reports.new ≡ Self.File.state_found file ∷ found reports.old };
 
     /// Looks at what a name leads to: its kind, and the length of a plain file.
     fn look(
@@ -171,6 +179,7 @@ pub trait Folder {
         ensures noted { AddsReport reports_are_right
             (look_agrees result (holds self.now (Self.Name.text name.now)))
             (agree reports.old) (agree reports.new) }
+        ensures found { found reports.new ≡ found reports.old }
         ensures refused { IfErr result (λ why. HasCause why can_refuse) };
 
     /// Whether the file of the first name is the same after another one takes the second name, or after what has the
@@ -185,7 +194,8 @@ pub trait Folder {
         ensures noted { AddsReport reports_are_right
             (apart_agrees result (apart self.now (Self.Name.text name.now)
             (Self.Name.text other.now)))
-            (agree reports.old) (agree reports.new) };
+            (agree reports.old) (agree reports.new) }
+        ensures found { found reports.new ≡ found reports.old };
 
     /// Finds what a killed run left under a name, and locks it. Returns None if nothing has the name, and is refused if
     /// something else has it.
@@ -201,6 +211,7 @@ pub trait Folder {
         ensures noted { AddsReport reports_are_right
             (leftover_agrees result (holds self.now (Self.Name.text name.now)))
             (agree reports.old) (agree reports.new) }
+        ensures found { found reports.new ≡ found reports.old }
         ensures refused { IfErr result (λ why. HasCause why
             (((holds self.now (Self.Name.text name.now) ≢ Nothing)
             × (is_leftover self.now (Self.Name.text name.now) ≡ false))
@@ -229,6 +240,7 @@ pub trait Folder {
         ensures noted { AddsReport reports_are_right
             (creation_agrees (is_ok result) (holds self.old (Self.Name.text name.now)))
             (agree reports.old) (agree reports.new) }
+        ensures found { found reports.new ≡ found reports.old }
         ensures empty { IfOk result (λ new. (Self.New.taken new ≡ Some [])
             × (Self.New.failures new ≡ 0)) }
         ensures making { MatchResult result (λ _. making self.new ≡ Some (Self.Name.text name.now))

@@ -3,7 +3,7 @@ ghost use Rattle.std.specs.Prelude.{◌≡◌, ◌≢◌, ◌⊎◌, ℕ, true, 
 ghost use Rattle.named_files.specs.Entries.{Nothing};
 ghost use Rattle.named_files.specs.OtherNames.{LeavesAloneThroughout};
 ghost use Rattle.named_files.specs.Refusals.{HasCause};
-ghost use Rattle.named_files.specs.Reported.{AddsReports};
+ghost use Rattle.named_files.specs.AddedReports.{AddsReports};
 
 use crate::folder::Folder;
 use crate::refusal::Refusal;
@@ -23,7 +23,7 @@ pub fn clear_leftover<F: Folder>(
 ) -> Result<(), Refusal>
     ensures free { OnOk result (F.agree reports.new ≡ true
         → F.holds folder.new (F.Name.text name.now) ≡ Nothing) }
-    ensures reports { AddsReports F.reports_are_right (F.agree reports.old) (F.agree reports.new) }
+    ensures reports { AddsReports F.Folder reports.old reports.new }
     // What is removed was left by a killed run.
     ensures only_leftover { F.is_leftover folder.old (F.Name.text name.now) ≡ false → folder.new
         ≡ folder.old }

@@ -11,6 +11,7 @@ ghost use Rattle.named_files.specs.MemoryFolders.{changes_of, change_of, entry_o
 pub mod item;
 pub mod memory_file;
 pub mod memory_new;
+pub mod memory_reports;
 mod step;
 
 use crate::file_name::FileName;
@@ -20,6 +21,7 @@ use crate::made_names::MadeNames;
 use crate::memory_folder::item::Item;
 use crate::memory_folder::memory_file::MemoryFile;
 use crate::memory_folder::memory_new::MemoryNew;
+use crate::memory_folder::memory_reports::MemoryReports;
 use crate::memory_folder::step::{Found, Step};
 use crate::plain_name::PlainName;
 use crate::refusal::Refusal;
@@ -40,10 +42,6 @@ pub struct MemoryFolder {
 pub struct MemoryLeft {
     name: String,
 }
-
-/// What was reported of files in memory. All of it is so.
-#[derive(Drop)]
-pub struct MemoryReports {}
 
 impl MemoryFolder {
     /// Returns a folder in which nothing has a name.
@@ -180,6 +178,8 @@ impl Folder for MemoryFolder {
 
     ghost agree = { λ _. true };
 
+    ghost found = { λ reports. reports.found };
+
     ghost made = { λ names. names.notes.made };
 
     ghost holds = { λ m n. (held_in m n).entry };
@@ -230,10 +230,12 @@ impl Folder for MemoryFolder {
     ghost writes_fail = { λ _ _. tt };
 
     fn no_reports(&self) -> MemoryReports {
-        MemoryReports {}
+        MemoryReports::new()
     }
 
-    fn add_reports(&self, _reports: &mut MemoryReports, _more: MemoryReports) {}
+    fn add_reports(&self, reports: &mut MemoryReports, more: MemoryReports) {
+        reports.add(&more);
+    }
 
     fn name(
         &self,
@@ -256,7 +258,9 @@ impl Folder for MemoryFolder {
         }
     }
 
-    fn take_back(&self, _reports: &mut MemoryReports, _file: MemoryFile) {}
+    fn take_back(&self, reports: &mut MemoryReports, file: MemoryFile) {
+        reports.note(&file);
+    }
 
     fn look(
         &self,

@@ -3,7 +3,7 @@ ghost use Rattle.std.specs.Prelude.{◌≡◌, ◌≢◌, ◌⊎◌, ◌<◌, �
 ghost use Rattle.named_files.specs.Crashes.{LeavesOnly};
 ghost use Rattle.named_files.specs.Entries.{Entry, File, Nothing, Leads, SameWhere};
 ghost use Rattle.named_files.specs.Refusals.{HasCause, has_name, refusal_of_name};
-ghost use Rattle.named_files.specs.Reported.{AddsReports};
+ghost use Rattle.named_files.specs.AddedReports.{AddsReports};
 ghost use Rattle.named_files.specs.TakingNames.{Replaces, TakesName};
 
 use crate::folder::Folder;
@@ -85,7 +85,7 @@ pub fn replace_file<F: Folder>(
     bytes: &[u8],
 ) -> Result<(), NameFault>
     requires making { F.making folder.old ≡ None }
-    ensures reports { AddsReports F.reports_are_right (F.agree reports.old) (F.agree reports.new) }
+    ensures reports { AddsReports F.Folder reports.old reports.new }
     // The name leads to exactly these bytes; or, without the name, to what it led to before, if it is apart from the
     // temporary name.
     ensures named { has_name result ≡ true → F.holds folder.new (F.Name.text name.now)

@@ -47,6 +47,8 @@ impl<'c, F: Folder + Drop> Folder for FailingFolder<'c, F> {
 
     ghost agree = { F.agree };
 
+    ghost found = { F.found };
+
     ghost made = { F.made };
 
     ghost holds = { λ f. F.holds f.inner };

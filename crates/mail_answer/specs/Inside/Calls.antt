@@ -17,7 +17,7 @@ pub record AreAsIndexed {A : Type 0} (g : Ghosts A) (indexed : List Archive) (a 
 -- After reads alone, nothing else is known of the archives than before.
 pub record KeepsArchives {A : Type 0} (g : Ghosts A) (old new : A) : Type 0 where
   pub held : WasKnown (g.held old) (g.held new)
-  pub whole : (archives : List (List ℕ)) → g.whole old archives → g.whole new archives
+  pub was : (first : A) → g.was old first → g.was new first
   pub number : g.number new ≡ g.number old
   -- no length was read
   pub asked : g.lengths_asked new ≡ g.lengths_asked old

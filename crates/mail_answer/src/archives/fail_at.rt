@@ -56,7 +56,7 @@ impl<A: Archives + Drop> Archives for FailAt<A> {
 
     ghost failures = { λ s. A.failures s.inner + s.failures };
 
-    ghost whole = { λ s. A.whole s.inner };
+    ghost was = { λ s first. A.was s.inner first.inner };
 
     ghost lengths_asked = { λ s. A.lengths_asked s.inner };
 
@@ -78,8 +78,7 @@ impl<A: Archives + Drop> Archives for FailAt<A> {
         ensures count { Counts result (A.failures self.old.inner + self.old.failures)
             (A.failures self.new.inner + self.new.failures) }
         ensures held { WasKnown (A.held self.old.inner) (A.held self.new.inner) }
-        ensures whole { (archives : List (List ℕ)) → A.whole self.old.inner archives
-            → A.whole self.new.inner archives }
+        ensures was { (first : A) → A.was self.old.inner first → A.was self.new.inner first }
         ensures number { A.number self.new.inner ≡ A.number self.old.inner }
     {
         if self.fails() {
@@ -103,8 +102,7 @@ impl<A: Archives + Drop> Archives for FailAt<A> {
         ensures count { Counts result (A.failures self.old.inner + self.old.failures)
             (A.failures self.new.inner + self.new.failures) }
         ensures held { WasKnown (A.held self.old.inner) (A.held self.new.inner) }
-        ensures whole { (archives : List (List ℕ)) → A.whole self.old.inner archives
-            → A.whole self.new.inner archives }
+        ensures was { (first : A) → A.was self.old.inner first → A.was self.new.inner first }
         ensures number { A.number self.new.inner ≡ A.number self.old.inner }
     {
         if self.fails() {

@@ -55,7 +55,7 @@ impl Archives for MemoryArchives {
 
     ghost failures = { λ s. 0 };
 
-    ghost whole = { λ s archives. s ≡ archives };
+    ghost was = { λ s first. s ≡ first };
 
     ghost lengths_asked = { λ _. 0 };
 
@@ -71,7 +71,7 @@ impl Archives for MemoryArchives {
         requires below { n < length self.old }
         requires count { 0 < 2 ^ 64 - 1 }
         ensures held { Some self.new ≡ Some self.old }
-        ensures whole { (archives : List (List ℕ)) → self.old ≡ archives → self.new ≡ archives }
+        ensures was { (first : List (List ℕ)) → self.old ≡ first → self.new ≡ first }
         ensures number { length self.new ≡ length self.old }
         ensures bytes { IfOk result (λ bytes. IsLength n bytes (Some self.old)) }
         ensures count { Counts result 0 0 }
@@ -85,7 +85,7 @@ impl Archives for MemoryArchives {
         requires room { 0 < length into.old }
         requires count { 0 < 2 ^ 64 - 1 }
         ensures held { Some self.new ≡ Some self.old }
-        ensures whole { (archives : List (List ℕ)) → self.old ≡ archives → self.new ≡ archives }
+        ensures was { (first : List (List ℕ)) → self.old ≡ first → self.new ≡ first }
         ensures number { length self.new ≡ length self.old }
         ensures bound { IfOk result (λ bytes. bytes ≤ length into.new) }
         ensures bytes { IfOk result (λ bytes. IsReadFromArchive n offset (take bytes into.new)

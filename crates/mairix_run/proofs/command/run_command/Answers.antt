@@ -2,6 +2,7 @@
 use Rattle.std.proofs.Common.{◌≡◌, inl, true, drop, map, string_bytes, subst, List, String, Global, ℕ, Result, Ok, Err, IfOk}
 use Rattle.std.specs.Vec.Iter.{into_iter_items}
 use Rattle.mairix_run.specs.Commands.{RunsProgram}
+use Rattle.named_files.specs.FoundStates.{AreReadInFirstStates}
 use Rattle.mairix_run.proofs.command.run_command.Goals as goal
 
 -- what follows for each value
@@ -17,7 +18,9 @@ returns-in-Ok-clause-ran g c =
     let says = run.ensures in
     let Made = λ (words : List (String Global)) (second : ℕ). RunsProgram F g.O.Out g.O.Stream.handed_on g.E.Out
     (g.T.Texts.is_usage_text texts (map string_bytes words)) g.T.Texts.memory_can_run_out (map string_bytes words)
-    second (F.agree run.new.files.reports ≡ true) (F.agree run.new.files.reads ≡ true) c.args.files.now.folder
+    second (F.agree run.new.files.reports ≡ true) (F.agree run.new.files.reads ≡ true)
+    (AreReadInFirstStates (F.found c.args.files.now.reports) (F.found run.new.files.reports)
+    (F.found c.args.files.now.reads) (F.found run.new.files.reads)) c.args.files.now.folder
     run.new.files.folder
     (F.made c.args.names.now)
     (F.made run.new.names) c.args.streams.now.out run.new.streams.out c.args.streams.now.err run.new.streams.err

@@ -1,6 +1,6 @@
 -- If all reports agree, the archives have the bytes of the files, so the answer is that of these bytes. What is so of
 -- what was written is so of the result, which has lack of memory in place of a failed read.
-use Rattle.std.proofs.Common.{Ok, ◌≡◌, ◌∙◌, ◌⊎◌, ◌&&◌, Option, ◌≤◌, ◌<◌, ◌^◌, List, ℕ, true, Some, ap, arith, length, map, refl, rules, subst, sym}
+use Rattle.std.proofs.Common.{Ok, OnOk, ◌≡◌, ◌∙◌, ◌⊎◌, ◌&&◌, Option, ◌≤◌, ◌<◌, ◌^◌, List, ℕ, true, Some, ap, arith, length, map, refl, rules, subst, sym}
 use Rattle.std.specs.Bool.{OnTrue}
 use Rattle.std.specs.Result.{MatchResult}
 use Rattle.mairix_tool.specs.Altered.{altered_archive}
@@ -8,7 +8,13 @@ use Rattle.mairix_tool.specs.Asked.{asks}
 use Rattle.mairix_tool.specs.Runs.{IsReply, IsStaleOr, IsStoredReply}
 use Rattle.named_archives.specs.Names.{files_of, held_while}
 use Rattle.named_archives.specs.Progress.{CannotRead, has_agreed}
-use Rattle.run_faults.specs.Faults.{fault_in, IsSearchFault}
+use Rattle.run_faults.specs.Faults.{fault_in, is_failed_archives, IsSearchFault}
+use Rattle.contract_words.specs.Devices.{Counted}
+use Rattle.named_archives.specs.States.{IsInOneOf}
+use Rattle.named_files.proofs.FoundStates.{only-none, only-then}
+use Rattle.named_files.specs.AddedReports.{AddsReports}
+use Rattle.named_files.specs.FoundStates.{AreFoundOnly}
+use Rattle.mairix_run.proofs.FirstStates.{ok-both, ok-memory, ok-then, ok-without-fault}
 use Rattle.mairix_run.proofs.Replies.{answers-by, fault-of, plain-reply, plain-stale, plain-stored}
 use Rattle.mairix_run.proofs.SearchedArchives.{are-some, ended-if, first-agree, held-at-end, if-some}
 use Rattle.mairix_run.proofs.UnreadArchives.{or-other, reads-fail, searched-memory, stored-reads}
@@ -80,8 +86,45 @@ still : (g : Over) (c : After-report_lack_of_memory g) (bytes : List (List ℕ))
     → files_of g.F.Name.FileName.text (g.F.Folder.holds c.match-search.archives.folder.now)
     c.match-search.archives.names.now ≡ map Some bytes
 still g c bytes = elim c.match-search.branch [
-  | in-Some-index w ↦ rw w.archives-is (w.search_run.ensures.keeps.whole bytes)
-  | in-None w ↦ rw w.archives-is (w.answer_once-answered.ensures.held.whole bytes)
+  | in-Some-index w ↦ rw w.archives-is
+      (λ is. (w.search_run.ensures.keeps.was c.in-Some.archives (refl, refl)).0 ∙ is)
+  | in-None w ↦ rw w.archives-is
+      (λ is. (w.answer_once-answered.ensures.held.was c.in-Some.archives (refl, refl)).0 ∙ is)
+]
+
+-- they still have to be in the states of the first look
+still-in : (g : Over) (c : After-report_lack_of_memory g)
+    → c.match-search.archives.states.now ≡ c.in-Some.archives.states.now
+still-in g c = elim c.match-search.branch [
+  | in-Some-index w ↦ rw w.archives-is (w.search_run.ensures.keeps.was c.in-Some.archives (refl, refl)).1
+  | in-None w ↦ rw w.archives-is (w.answer_once-answered.ensures.held.was c.in-Some.archives (refl, refl)).1
+]
+
+-- with an answer no call of the archives has failed, and each source was found in its state
+abbrev AreRead : (g : Over) (c : After-report_lack_of_memory g) → Type 0
+AreRead g c = (c.match-search.archives.failures ≡ 0) × AreFoundOnly (IsInOneOf c.args.search.now.states.now)
+    (g.F.Folder.found c.args.reports.now) (g.F.Folder.found c.match-search.reports)
+
+are-read : (g : Over) (c : After-report_lack_of_memory g) → OnOk c.match-search.answered (AreRead g c)
+are-read g c = elim c.match-search.branch [
+  | in-Some-index w ↦
+      let run = w.search_run in
+      let P = IsInOneOf c.args.search.now.states.now in
+      let old = g.F.Folder.found c.args.reports.now in
+      let Read = (run.new.archives.failures ≡ 0) × AreFoundOnly P old old in
+      rw w.answered-is (rw w.archives-is (rw w.reports-is (subst (λ r. OnOk r Read) (sym w.result_of-answered.ensures)
+      (ok-without-fault Read run.result.status run.result.fault (λ none. (
+        subst (λ f. Counted (is_failed_archives f) c.in-Some.archives.failures run.new.archives.failures) none
+            run.ensures.counts.archives ∙ c.in-Some.ensures.fresh,
+        only-none P old,
+      ))))))
+  | in-None w ↦
+      let once = w.answer_once-answered in
+      let P = IsInOneOf c.args.search.now.states.now in
+      rw w.answered-is (rw w.archives-is (rw w.reports-is (ok-both (once.new.archives.failures ≡ 0)
+      (AreFoundOnly P (g.F.Folder.found c.args.reports.now) (g.F.Folder.found once.new.reports)) once.result
+      (ok-then (once.new.archives.failures ≡ c.in-Some.archives.failures) (once.new.archives.failures ≡ 0) once.result
+      once.ensures.counts (λ same. same ∙ c.in-Some.ensures.fresh)) once.ensures.in_state)))
 ]
 
 searched : (g : Over) (c : After-report_lack_of_memory g) → let search = c.args.search.now in
@@ -132,3 +175,39 @@ returns-clause-unsent g c = (searched g (goal.at.returns-clause-unsent g c).Afte
 
 pub returns-clause-causes : goal.returns-clause-causes
 returns-clause-causes g c = (searched g (goal.at.returns-clause-causes g c).After-report_lack_of_memory).causes
+
+pub returns-clause-in_state : goal.returns-clause-in_state
+returns-clause-in_state g c =
+    let at = (goal.at.returns-clause-in_state g c).After-report_lack_of_memory in
+    let found = g.F.Folder.found in
+    let states : List g.row.F-File-State.Denot = c.args.search.now.states.now in
+    let P = IsInOneOf states in
+    let archives = c.match-search.archives in
+    let same : archives.states.now ≡ states = still-in g at ∙ c.in-Some.ensures.states in
+    let AreFound = AreFoundOnly P (found c.args.reports.now) (found c.report.new.reports) in
+    subst (λ r. OnOk r AreFound) (sym c.report_lack_of_memory.ensures)
+    (ok-memory AreFound c.lacks_memory-lacks_memory.result c.match-search.answered
+    (ok-then (AreRead g at) AreFound c.match-search.answered (are-read g at) (λ read.
+    only-then P (found c.args.reports.now) (found c.match-search.reports) (found c.report.new.reports) read.1
+    (subst (λ (s : List g.row.F-File-State.Denot). AreFoundOnly (IsInOneOf s) (found c.match-search.reports)
+    (found c.report.new.reports)) same (c.report.ensures.in_state read.0)))))
+
+-- ---- the reports
+
+searching : (g : Over) (c : After-report_lack_of_memory g)
+    → AddsReports {R = g.row.F-Reports.Denot} g.F.Folder c.args.reports.now c.match-search.reports
+searching g c = elim c.match-search.branch [
+  | in-Some-index w ↦ rw w.reports-is
+      (record { earlier = λ agrees. agrees; right = λ right. refl; found = λ first is. is })
+  | in-None w ↦ rw w.reports-is w.answer_once-answered.ensures.reports
+]
+
+pub returns-clause-reports : goal.returns-clause-reports
+returns-clause-reports g c =
+    let mid = searching g (goal.at.returns-clause-reports g c).After-report_lack_of_memory in
+    let end = c.report.ensures.reports in
+    record {
+      earlier = λ agrees. mid.earlier (end.earlier agrees);
+      right = λ right. end.right right ∙ mid.right right;
+      found = λ first is. end.found first (mid.found first is);
+    }

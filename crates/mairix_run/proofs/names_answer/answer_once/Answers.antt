@@ -1,21 +1,25 @@
 -- What a search of archives that it indexes itself answers, by the clauses of `once_run` and of its sources.
-use Rattle.std.proofs.Common.{◌≡◌, ◌∙◌, ◌⊎◌, ◌<◌, ◌≤◌, ◌^◌, ◌++◌, length, map, take, drop, None, sym, ap, inl, inr, arith, subst}
+use Rattle.std.proofs.Common.{◌≡◌, ◌∙◌, ◌⊎◌, ◌<◌, ◌≤◌, ◌^◌, ◌++◌, List, length, map, take, drop, None, Some, OnOk, slice_index, refl, sym, ap, inl, inr, arith, subst}
 use Rattle.std.proofs.lemmas.Grind.{common_steps}
 use Rattle.std.proofs.lemmas.List.Elements.{All-same}
 use Rattle.std.specs.Bool.{⊤}
-use Rattle.std.specs.List.{list_any}
+use Rattle.std.specs.List.{Contains, list_any}
 use Rattle.std.specs.Result.{MatchResult}
 use Rattle.contract_words.specs.Devices.{Counted}
 use Rattle.mairix_tool.specs.Asked.{asks}
 use Rattle.named_archives.specs.Progress.{CannotRead, is_for_memory}
 use Rattle.mairix_tool.specs.Runs.{IsReply, IsThisOrMemory}
 use Rattle.named_files.specs.Entries.{bytes_of}
-use Rattle.run_faults.specs.Faults.{IsOnceFault, fault_in, is_early, is_failed_out, is_failed_source}
+use Rattle.run_faults.specs.Faults.{IsOnceFault, fault_in, is_early, is_failed_archives, is_failed_out, is_failed_source}
+use Rattle.named_archives.proofs.Noted.{noted-passing}
+use Rattle.named_archives.specs.States.{IsInOneOf, noted_files}
+use Rattle.named_files.specs.FoundStates.{AreFoundOnly}
 use Rattle.mairix_run.proofs.NamedSources.{counted-new, has-cause, known-now}
 use Rattle.mairix_run.proofs.Replies.{fault-of, indexed-answers-by, once-ended, once-silent, plain-reply, refuses-as, uses-none}
 use Rattle.mairix_run.proofs.SearchedArchives.{ended-if}
 use Rattle.mairix_run.proofs.UnreadArchives.{archives-counted, on-any, searched-memory, source-counted, unread-cause}
-use Rattle.mairix_run.specs.Answered.{LeavesUnsent}
+use Rattle.mairix_run.specs.Answered.{LeavesUnsent, result_by, result_with_memory}
+use Rattle.mairix_run.proofs.FirstStates.{all-asked, all-found-in, ok-memory, ok-without-fault}
 use Rattle.mairix_run.proofs.names_answer.answer_once.Goals as goal
 
 pub returns-clause-searched : goal.returns-clause-searched
@@ -85,3 +89,59 @@ returns-clause-searched g c =
             run.ensures.counts.others.out;
       };
     })
+
+-- without a fault each source was found in its state when it was given back
+pub returns-clause-in_state : goal.returns-clause-in_state
+returns-clause-in_state g c =
+    let F = g.F.Folder in
+    let found = g.F.File.KeptFile.state_found in
+    let search = c.args.search.now in
+    let states : List g.row.F-File-State.Denot = search.states.now in
+    let sources = c.in-Ok.sources in
+    let run = c.once_run-reply in
+    let reply = run.result in
+    let news = run.new.sources in
+    let long : length news ≡ sources.len = grind arith in
+    let given : take sources.len (news ++ drop (length news) sources.items) ≡ news =
+    grind (arith, long, common_steps) in
+    let fresh = All-same (λ s. (s.failures ≡ 0) × (s.file ≡ None)) _ _ c.as_mut_slice-unread.ensures.value
+    c.in-Ok.ensures.fresh in
+    let counted = counted-new g.F.File.Source.rest
+    (λ s. bytes_of (F.holds s.folder.now (g.F.Name.FileName.text s.name.now)))
+    (λ s. s.file) (λ s. s.progress) (λ s. s.failures) _ fresh (λ n. is_failed_source n reply.fault) _
+    run.ensures.counts.sources in
+    let asked = All-same (λ s. (asked : g.row.F-File-State.Denot) × (s.state ≡ Some asked) × Contains states asked) _ _
+    c.as_mut_slice-unread.ensures.value
+    (all-asked (λ s. s.state) states sources.items (length search.names.now) search.each c.in-Ok.ensures.states) in
+    let noted : F.found c.report_all.new.reports
+    ≡ noted_files found (map (λ s. s.file) news) ++ F.found c.args.reports.now = rw given at c.report_all.ensures.found
+    in
+    let AreFound = AreFoundOnly (IsInOneOf states) (F.found c.args.reports.now) (F.found c.report_all.new.reports) in
+    subst (λ r. OnOk r AreFound)
+    (sym (c.report_lack_of_memory.ensures ∙ ap (result_with_memory c.lack_memory-lacks_memory.result)
+    c.result_of.ensures))
+    (ok-memory AreFound c.lack_memory-lacks_memory.result (result_by reply.status reply.fault)
+    (ok-without-fault AreFound reply.status reply.fault (λ none. record {
+      more = noted_files found (map (λ s. s.file) news);
+      added = noted;
+      passing = noted-passing found (IsInOneOf states) (map (λ s. s.file) news)
+          (all-found-in _ (λ s. s.state) (λ s. s.file) found (λ s. s.failures) states
+          (λ old new stays. stays.was old refl) (λ s. s.in_state) _ news run.ensures.keeps.sources.each asked
+          (λ n. subst (λ f. Counted (is_failed_source n f) 0 (slice_index (map (λ s. s.failures) news) n)) none
+          (counted n)));
+    })))
+
+-- without a fault no call of the archives has failed
+pub returns-clause-counts : goal.returns-clause-counts
+returns-clause-counts g c =
+    let run = c.once_run-reply in
+    let reply = run.result in
+    let failures = g.A.Archives.failures in
+    let Same = failures run.new.archives ≡ failures c.args.archives.now in
+    subst (λ r. OnOk r Same)
+    (sym (c.report_lack_of_memory.ensures ∙ ap (result_with_memory c.lack_memory-lacks_memory.result)
+    c.result_of.ensures))
+    (ok-memory Same c.lack_memory-lacks_memory.result (result_by reply.status reply.fault)
+    (ok-without-fault Same reply.status reply.fault
+    (λ none. subst (λ f. Counted (is_failed_archives f) (failures c.args.archives.now) (failures run.new.archives)) none
+    run.ensures.counts.others.archives)))

@@ -1,12 +1,15 @@
 -- The archives are indexed, or searched by an index that is made in memory.
-use Rattle.std.proofs.Common.{◌≡◌, ◌∙◌, ◌⊎◌, ◌∷◌, [], refl, sym, subst, ap, List, ℕ, map, Ok, Err, true, All}
+use Rattle.std.proofs.Common.{◌≡◌, ◌∙◌, ◌⊎◌, ◌∷◌, [], refl, sym, subst, ap, List, ℕ, map, Ok, Err, OnOk, false, true, All}
 use Rattle.std.specs.Option.{option_map}
 use Rattle.index_run.specs.ArchivesIndexed.{mboxes}
 use Rattle.mail_index.specs.Tables.{IsPath}
 use Rattle.mairix_options.specs.AnswerFiles.{answer_file}
-use Rattle.named_archives.specs.States.{AreStatesOf}
+use Rattle.named_archives.specs.States.{AreStatesOf, IsInOneOf}
+use Rattle.named_files.proofs.FoundStates.{adds-none}
 use Rattle.named_files.specs.Entries.{bytes_of}
+use Rattle.named_files.specs.FoundStates.{AreFoundOnly, AreReadInFirstStates}
 use Rattle.mairix_run.proofs.FilesAt.{files-known, of-named}
+use Rattle.mairix_run.proofs.FirstStates.{in-first-states, ok-then}
 use Rattle.mairix_run.proofs.NamesUsed.{archives-asked, file-indexed, new-index-asked, once-asked, stored-asked}
 use Rattle.mairix_run.proofs.RunParts.{ran-ended, ran-made, ran-wider}
 use Rattle.mairix_run.proofs.RunStages.{archives-end, task-index, task-once, task-stored}
@@ -148,3 +151,42 @@ returns-clause-ran g c = λ agree.
     (stored-asked p rc is c.if-plan.false) (search_stored_task (F.holds old) wanted p rc found.0) _
     (task-stored (F.holds old) wanted p rc found.0 files is c.if-plan.false) old run.new.files.folder c.args.out.now
     run.new.out (ending_of_result run.result) (run.ensures.ran found.0 files agree)
+
+-- ---- the states
+
+pub returns-then-plan-clause-in_state : goal.returns-then-plan-clause-in_state
+returns-then-plan-clause-in_state g c = λ searches.
+    let F = g.F.Folder in
+    let old = F.found c.args.files.now.reports in
+    let mid = F.found c.states_of.new.reports in
+    let new = F.found c.run_search.new.files.reports in
+    let reads = F.found c.args.files.now.reads in
+    let reads' = F.found c.run_search.new.files.reads in
+    let states : List g.row.F-File-State.Denot = c.in-Ok.states.items in
+    ok-then (AreFoundOnly (IsInOneOf states) reads reads') (AreReadInFirstStates old new reads reads')
+    c.run_search.result
+    (subst (λ (s : List g.row.F-File-State.Denot). OnOk c.run_search.result (AreFoundOnly (IsInOneOf s) reads reads'))
+    c.as_slice-states.ensures.value c.run_search.ensures.in_state)
+    (in-first-states states old mid new reads reads' c.in-Ok.ensures.found
+    (c.run_search.ensures.reports.found mid (adds-none mid)))
+
+pub returns-clause-in_state : goal.returns-clause-in_state
+returns-clause-in_state g c = λ searches.
+    let F = g.F.Folder in
+    let old = F.found c.args.files.now.reports in
+    let mid = F.found c.states_of.new.reports in
+    let new = F.found c.search_stored.new.files.reports in
+    let reads = F.found c.args.files.now.reads in
+    let reads' = F.found c.search_stored.new.files.reads in
+    let states : List g.row.F-File-State.Denot = c.in-Ok.states.items in
+    ok-then (AreFoundOnly (IsInOneOf states) reads reads') (AreReadInFirstStates old new reads reads')
+    c.search_stored.result
+    (subst (λ (s : List g.row.F-File-State.Denot). OnOk c.search_stored.result
+    (AreFoundOnly (IsInOneOf s) reads reads'))
+    c.as_slice-states.ensures.value c.search_stored.ensures.in_state)
+    (in-first-states states old mid new reads reads' c.in-Ok.ensures.found
+    (c.search_stored.ensures.reports.found mid (adds-none mid)))
+
+pub returns-then-is_index_run-clause-in_state : goal.returns-then-is_index_run-clause-in_state
+returns-then-is_index_run-clause-in_state g c = λ searches.
+    let is : false ≡ true = sym (c.is_index_run.ensures ∙ searches) ∙ c.if-is_index_run.true in absurd cc

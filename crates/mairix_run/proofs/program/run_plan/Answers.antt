@@ -4,7 +4,10 @@ use Rattle.std.specs.List.{Contains}
 use Rattle.std.specs.Option.{option_map_or}
 use Rattle.contract_words.specs.Answers.{◌>>=◌, fault_as}
 use Rattle.mairix_options.specs.Rcfile.{rc_of}
+use Rattle.named_files.proofs.FoundStates.{adds-none}
 use Rattle.named_files.specs.Entries.{File, IsFileOf, bytes_of}
+use Rattle.named_files.specs.FoundStates.{AreReadInFirstStates}
+use Rattle.mairix_run.proofs.FirstStates.{first-earlier, ok-then}
 use Rattle.mairix_run.proofs.AskedNames.{asks_one, asks_then, asks_wider, given-planned, rcfile-planned}
 use Rattle.mairix_run.proofs.NamesUsed.{asked-planned, contains-first}
 use Rattle.mairix_run.proofs.RunParts.{ran-ended, ran-wider}
@@ -191,3 +194,16 @@ returns-clause-ran g c = λ agree.
     (task_of_rc holds (wanted_of_words words t moment) p rc) c.args.files.now.folder c.run_asked.new.files.folder
     c.args.out.now c.run_asked.new.out (ending_of_result c.run_asked.result))
     c.as_slice-2.ensures.value (c.run_asked.ensures.ran agree))
+
+-- the states that were found first, after the rcfile was read, are so since the run began
+pub returns-clause-in_state : goal.returns-clause-in_state
+returns-clause-in_state g c = λ searches.
+    let F = g.F.Folder in
+    let old = F.found c.args.files.now.reports in
+    let mid = F.found c.read_named-text.new.reports in
+    let new = F.found c.run_asked.new.files.reports in
+    let reads = F.found c.args.files.now.reads in
+    let reads' = F.found c.run_asked.new.files.reads in
+    ok-then (AreReadInFirstStates mid new reads reads') (AreReadInFirstStates old new reads reads') c.run_asked.result
+    (c.run_asked.ensures.in_state searches)
+    (first-earlier old mid new reads reads' (c.read_named-text.ensures.reports.found old (adds-none old)))

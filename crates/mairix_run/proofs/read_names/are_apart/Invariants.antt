@@ -13,4 +13,5 @@ invariant-loop-one g l =
           ≡ list_all (λ read. F.apart l.folder (text read) (text l.name)) l.read;
       earlier : F.agree l.reports ≡ true → F.agree l.fn.reports ≡ true;
       right : F.reports_are_right → F.agree l.reports ≡ F.agree l.fn.reports;
+      found : F.found l.reports ≡ F.found l.fn.reports;
     }

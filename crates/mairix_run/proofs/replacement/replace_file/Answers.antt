@@ -4,6 +4,7 @@ use Rattle.std.specs.Option.{option_map_or}
 use Rattle.named_archives.specs.Names.{files_of}
 use Rattle.named_archives.specs.Progress.{CannotRead}
 use Rattle.mairix_run.proofs.MadeRuns.{all-after, files-same, fit-same, kept-replaced, made-settled, none-made}
+use Rattle.mairix_run.proofs.FirstStates.{ok-ended, ok-settled}
 use Rattle.mairix_run.proofs.Written.{once-failed, written-weaker}
 use Rattle.mairix_run.specs.Inside.RunParts.{ReplacesFile}
 use Rattle.mairix_run.specs.ReadFiles.{names_read}
@@ -81,3 +82,11 @@ returns-clause-run g c = λ bytes files agree.
       settling = c.settle_file.ensures.any_moment;
       calls = c.settle_file.ensures.calls;
     }) (c.in_default.ensures.replaceable bytes (c.in-Ok.ensures.reports.earlier agree)) written)
+
+pub returns-clause-in_state : goal.returns-clause-in_state
+returns-clause-in_state g c =
+    let AreFound = g.C.Content.are_found c.args.content.now (g.F.Folder.found c.args.files.now.reads)
+    (g.F.Folder.found c.write-written.new.reports) in
+    ok-ended AreFound c.settle_file.result c.status_or_stopped.result c.status_or_stopped.ensures
+    (ok-settled AreFound c.write-written.result c.settle_file.result c.settle_file.ensures.status
+    c.write-written.ensures.in_state)

@@ -1,11 +1,12 @@
 -- One more name has one more state, and what is reported of its file.
-use Rattle.std.proofs.Common.{◌≡◌, ◌∙◌, ◌<◌, ◌≤◌, ◌+◌, ◌&&◌, ℕ, true, not, List, [], ◌∷◌, ◌++◌, Option, is_some, is_ok, length, take, length-take-le, sym, ap, subst, arith}
+use Rattle.std.proofs.Common.{◌≡◌, ◌∙◌, ◌<◌, ◌≤◌, ◌+◌, ◌&&◌, ℕ, true, not, List, [], ◌∷◌, ◌++◌, Option, Some, is_some, is_ok, length, take, length-take-le, sym, ap, subst, arith}
 use Rattle.std.specs.List.{list_all}
 use Rattle.std.proofs.lemmas.List.{length-map}
 use Rattle.named_files.specs.Entries.{bytes_of}
 use Rattle.named_archives.specs.Names.{files_of}
-use Rattle.named_archives.specs.States.{AreStatesOf}
+use Rattle.named_archives.specs.States.{AreStatesOf, noted_states}
 use Rattle.named_archives.proofs.Lists.{agree-more}
+use Rattle.named_archives.proofs.Noted.{noted-more}
 use Rattle.named_archives.proofs.States.{files-more, states-more}
 use Rattle.named_archives.proofs.first_look.first_states.Goals as goal
 
@@ -43,5 +44,9 @@ loop-number-preserved g c =
           told.state));
       noted = agree-more (λ f. is_some f) files file old mid (g.F.Folder.agree c.first_state.new.reports) i.noted noted
           ∙ ap (λ fs. old && list_all (λ f. is_some f) fs) (sym more);
-      right = λ right. told.right right ∙ i.right right;
+      right = λ right. told.reports.right right ∙ i.right right;
+      found = told.found ∙ ap (λ l. Some c.in-Ok.state ∷ l) i.found
+          ∙ ap (λ l. l ++ g.F.Folder.found c.args.reports.now) (sym (noted-more states c.in-Ok.state))
+          ∙ ap (λ l. noted_states l ++ g.F.Folder.found c.args.reports.now) (sym items);
+      stays = λ first h. told.reports.found first (i.stays first h);
     }

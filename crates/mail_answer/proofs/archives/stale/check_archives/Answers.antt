@@ -28,7 +28,7 @@ loop-archive-preserved g c =
       within = omega (arith, lt);
       coming = sym step.1;
       keeps = holds_join g.A.Archives _ _ _ i.keeps
-          (record { held = was; whole = c.length.ensures.whole; number = c.length.ensures.number });
+          (record { held = was; was = c.length.ensures.was; number = c.length.ensures.number });
       count = (rw told at c.length.ensures.count) ∙ i.count;
       agree = agree_more g.A.Archives named c.loop-archive.n (g.A.Archives.number c.args.archives.now) a c.next.new.self
           c.args.archives.now c.loop-archive.archives c.length.new.self

@@ -10,7 +10,7 @@ pieces-preserved g c =
     let read = c.in-Ok.ensures in
     record {
       keeps = keeps_join _ _ _ _ i.keeps
-          (record { held = read.held; whole = read.whole; number = read.number; asked = read.asked });
+          (record { held = read.held; was = read.was; number = read.number; asked = read.asked });
       count = read.count ∙ i.count;
       within = grind (arith, length-take-le);
       absorbed = more_absorbed _ _ _ _ _

@@ -22,7 +22,7 @@ pub returns-clause-keeps : goal.returns-clause-keeps
 returns-clause-keeps g c =
     let reads = c.check_digests.ensures.keeps in
     holds_join _ _ _ _
-    c.check_archives.ensures.keeps (record { held = reads.held; whole = reads.whole; number = reads.number })
+    c.check_archives.ensures.keeps (record { held = reads.held; was = reads.was; number = reads.number })
 
 pub returns-clause-verified : goal.returns-clause-verified
 returns-clause-verified g c =

@@ -1,6 +1,6 @@
--- The next reports agree exactly if the caller says so.
+-- The next reports are those that the caller names.
 use Rattle.mairix_files.proofs.kit_reports.KitReports.next.Given as goal
 
--- whether they agree
+-- these reports
 abbrev pub ghost-of : goal.ghost-of
 ghost-of g a = g.said

@@ -1,7 +1,7 @@
--- `of` makes a value without bytes, whose ghost field is what is said.
+-- `of` makes a value without bytes, whose ghost fields are those that are said.
 use mathlib.Core.Path.{refl}
-use mathlib.Core.List.{[], ◌∷◌}
-use Rattle.std.specs.Prelude.{Bool}
+use mathlib.Core.List.{List, [], ◌∷◌}
+use Rattle.std.specs.Prelude.{Bool, Option}
 use seplogic.Ra.Ura.{Ura}
 use mir.Val.{Val, vstruct, vcons, vnil}
 use base.Logic.{SProp}
@@ -22,6 +22,7 @@ use denote.Triple.Entry.{on_entry}
 use denote.Triple.Spec.{Meets, triple_of}
 use denote.Triple.Table.{entered}
 use denote.Triple.Walked.{says, ends_at, walked, walk_Meets}
+use Rattle.mairix_files.specs.declared.file_state.FileState.{FileState}
 use Rattle.mairix_files.specs.declared.kit_reports.KitReports.{KitReports}
 use Rattle.mairix_files.specs.contracts.kit_reports.KitReports as T
 use Rattle.mairix_files.specs.contracts.kit_reports.KitReports.of.Key.{name as #it}
@@ -32,8 +33,8 @@ use Rattle.mairix_files.proofs.kit_reports.KitReports.of.Code as code
 abbrev v : Val
 v = vstruct (vcons (vstruct vnil) vnil)
 
-abbrev r : Bool → KitReports
-r said = record { marker = record {}; agree = said }
+abbrev r : Bool × List (Option FileState) → KitReports
+r said = record { marker = record {}; agree = said.0; found = said.1 }
 
 meets : {M : Type 1} {𝓤 : Ura M} (𝓛 : Logic 𝓤) → (at_mem : Memory → SProp 𝓤) (run : Routine → Fun 𝓤) (𝓣 : Tables 𝓤 𝓛.H)
     → Meets 𝓛 it.signature (WpFn 𝓤 𝓛.H 𝓣.C 𝓣.Λ code.function) (it.spec 𝓛 at_mem run)
@@ -51,7 +52,7 @@ meets {𝓤 = 𝓤} 𝓛 at_mem run 𝓣 =
     pure_i ! ((T.the_row).own_val (r g) (v ∷ [])) ((λ vss. (tt, ((λ uss. (tt, tt)), tt))), tt)
     (((vstruct vnil ∷ [], tt), (refl, ((tt, (refl, tt)), tt))), tt) $
     suffices ! _ (ends_at 𝓛 it.ended tt (it.clauses 𝓛 at_mem run) ((κs, qs, bounds, a, tt), g) v (r g) tt tt) $ says !
-    refl $
+    (refl, refl) $
     nothing ! $ join ! $ nothing ! $ done !)))
 
 pub of_spec : {M : Type 1} → stated.statement M

@@ -22,5 +22,6 @@ returns-in_ok-after-in-Some-clause-parameter c =
       name,
       value,
       piece-parameter text rest c.in-Some.sign.now
-          (sym c.after_name-tail.ensures ∙ c.in-Some.ensures.cases.0) (eq-eqb c.in-Some.sign.now 61 c.if-sign-eq61.true),
+          (sym c.after_name-tail.ensures ∙ c.in-Some.ensures.cases.0)
+          (eq-eqb c.in-Some.sign.now 61 c.if-sign-eq61.true),
     )

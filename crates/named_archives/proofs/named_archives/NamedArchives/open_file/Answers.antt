@@ -5,8 +5,8 @@ use Rattle.named_files.specs.Refusals.{HasCause}
 use Rattle.named_archives.proofs.Failures.{cannot-open}
 use Rattle.named_archives.proofs.named_archives.NamedArchives.open_file.Goals as goal
 
-pub invariant_of-self-in-Err-clause-failed : goal.invariant_of-self-in-Err-clause-failed
-invariant_of-self-in-Err-clause-failed g c = λ some not there.
+pub invariant_of-self-clause-failed : goal.invariant_of-self-clause-failed
+invariant_of-self-clause-failed g c = λ some not there.
     let F = g.F.Folder in
     let text = g.F.Name.FileName.text in
     let archives = c.args.self.now in

@@ -1,7 +1,7 @@
 -- What is known of the file after the read is what `read_on` says of it.
 use Rattle.std.proofs.Common.{◌≡◌, ◌≤◌, ◌+◌, false, Result, Ok, Err, OnOk, is_err, inr, subst, sym, ◌∙◌, arith}
 use Rattle.named_archives.proofs.Failures.{on-err}
-use Rattle.named_archives.specs.Progress.{HasReached}
+use Rattle.named_archives.specs.Progress.{HasReached, IsFoundInState}
 use Rattle.named_archives.proofs.named_source.NamedSource.read_opened.Goals as goal
 
 on-ok : {T E : Type 0} (r : Result T E) (P : Type 0) → is_err r ≡ false → OnOk r P → P
@@ -23,6 +23,7 @@ invariant_of-self-then-is_err g c =
       failed = λ some not there. ∣ inr (g.met.F.Folder.reads_fail c.read_on-read.new.file
           (on-err c.read_on-read.result _ (sym c.is_err.ensures.value ∙ c.if-is_err.true)
           c.read_on-read.ensures.failed)) ∣₁;
+      in_state = λ none. absurd (omega (arith, none));
     }
 
 pub invariant_of-self-else-is_err : goal.invariant_of-self-else-is_err
@@ -40,4 +41,8 @@ invariant_of-self-else-is_err g c =
           c.read_on-read.ensures.reached;
       cause = c.args.self.now.cause;
       failed = c.args.self.now.failed;
+      in_state = λ none file e. let same : c.read_on-read.new.file ≡ file = cc in
+          subst (λ (f : g.row.F-File.Denot). IsFoundInState g.F.File.KeptFile.state_found c.args.self.now.state f) same
+          (on-ok c.read_on-read.result _ (sym c.is_err.ensures.value ∙ c.if-is_err.false)
+          c.read_on-read.ensures.in_state);
     }

@@ -29,7 +29,7 @@ returns-then-n-eq0-clause-was g c = λ first was.
     record {
       name = was.name;
       keeps = keeps_join _ _ _ _ was.keeps
-          (record { held = told.held; whole = told.whole; number = told.number; asked = told.asked });
+          (record { held = told.held; was = told.was; number = told.number; asked = told.asked });
       failures = omega (arith, was.failures, told.count);
       early_ends = omega (arith, was.early_ends);
       read = λ same ends. absurd (omega (arith, was.early_ends, ends));
@@ -50,7 +50,7 @@ returns-clause-was g c = λ first was.
     record {
       name = was.name;
       keeps = keeps_join _ _ _ _ was.keeps
-          (record { held = told.held; whole = told.whole; number = told.number; asked = told.asked });
+          (record { held = told.held; was = told.was; number = told.number; asked = told.asked });
       failures = omega (arith, was.failures, told.count);
       early_ends = was.early_ends;
       read = λ same ends. until_join _ _ _
