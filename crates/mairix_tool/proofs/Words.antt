@@ -20,7 +20,7 @@ pub use Rattle.mail_answer.specs.declared.format.Format.{Format}
 pub use Rattle.mail_answer.specs.declared.format.Format.TheVariants.{Excerpt, Raw}
 pub use Rattle.mail_index.proofs.FileLaws.Bytes.{AreBytes}
 pub use Rattle.mail_index.specs.Faults.{HasArchives, HasCounts, HasDigest, HasDirectory, HasRecords, IsFileOfTable, IsFirstFaultOfFile, IsSigned, digest_start, version_told}
-pub use Rattle.mail_index.specs.Files.{DirectoryEntry, index_file, magic, record_bytes}
+pub use Rattle.mail_index.specs.Files.{DirectoryEntry, index_file, magic}
 pub use Rattle.mail_index.specs.Kinds.{kind_number}
 pub use Rattle.mail_index.specs.LookUps.{is_of_kind, keys_of}
 pub use Rattle.mail_index.specs.Tables.{AllNext, Archive, Follows, IsArchive, IsKey, IsMessage, IsPath, IsWellFormed, Key, KeyBefore, Table, archive_length}
@@ -39,12 +39,12 @@ pub use Rattle.mail_words.specs.declared.kind.TextKind.TheVariants.{Name}
 pub use Rattle.mairix_tool.specs.Altered.{HaveDistinctDigests, altered_archive}
 pub use Rattle.mairix_tool.specs.Asked.{Wanted, wanted_of_words, wanted_of_plan, asked_rc, query_asked, shown_wanted, wanted_by}
 pub use Rattle.mairix_tool.specs.Chosen.{facts_of_message, id_list, is_kind, words_of}
-pub use Rattle.mairix_tool.specs.MailOfArchives.{Numbered, link_ids, mail_in, nobody, numbered_at, numbered_messages, shape, text_in_form, share_id}
+pub use Rattle.mairix_tool.specs.MailOfArchives.{Numbered, link_ids, mail_in, nobody, numbered_at, numbered_messages, shape, share_id}
 pub use Rattle.mairix_tool.specs.OldTables.{HasDigests, ServesFor, but_digests, keys_but_names, old_table, without_digest}
 pub use Rattle.mairix_tool.specs.Replies.{Answer, answer_of_fault, status_of_count}
 pub use Rattle.mairix_tool.specs.Runs.{IsAnswer, IsCountedWhere, IsForNoOtherCause, IsAnswerFrom, IsIndexRefusal, IsOldOr, IsOnceReply, IsVerifiedAnswer, IsRefusedAs, IsReply, IsStaleOr, IsStoredReply, IsThisOrMemory, IsAnswerOrStale, IsStoredAnswer, IsUnindexed, RepliesBy, ReportsProved, WereVerified, answer_of_text, fault_of_answer_kind, first_renamed, is_too_old, renamed_archive, reply_of, unproved_archive}
 pub use Rattle.mairix_tool.specs.declared.reply.Reply.{Reply}
-pub use Rattle.mbox_cutter.specs.Archives.{Message, spans_of, messages, span_length, text}
+pub use Rattle.mbox_cutter.specs.Archives.{Message, messages, span_length, text}
 unfoldable pub use Rattle.mime_text.specs.MessageFacts.{facts_of}
 pub use Rattle.mime_text.specs.Sinks.{Pair}
 pub use Rattle.mime_text.specs.Texts.{texts_of_message}
@@ -63,4 +63,4 @@ pub use Rattle.std.specs.Io.KnownBytes.{Appends, Keeps}
 pub use Rattle.std.specs.List.{AllByRecursion, join_by, join_with_byte, list_any, range_with_len, slice_get, slice_index_or}
 pub use Rattle.std.specs.Option.{option_map, option_map_or, option_or}
 pub use Rattle.std.specs.Prelude.{Contains, nat_le, ⊤, ◌⊎◌}
-pub use Rattle.std.specs.declared.cmp.Ordering.TheVariants.{Equal, Less}
+pub use Rattle.std.specs.declared.cmp.Ordering.TheVariants.{Less}

@@ -1,5 +1,5 @@
 -- Bytes have only one first fault, because all rules before a first fault are kept and its own is broken.
-use Rattle.mairix_tool.proofs.Words.{◌≡◌, ◌∙◌, ℕ, zero, suc, ◌<◌, ◌≤◌, ◌^◌, ◌+◌, List, length, take, flat_map, sym, ap, subst, arith, inl, inr, ◌⊎◌, ⊤, leb_tells, eqb_tells, IndexFault, TooShort, BadMagic, BadVersion, BadDigest, BadLayout, Record, IsFirstFaultOfFile, HasDigest, IsSigned, HasCounts, HasArchives, HasRecords, HasDirectory, digest_start, version_told, IsVersion, magic, record_bytes, DirectoryEntry, Archive, AreBytes}
+use Rattle.mairix_tool.proofs.Words.{◌≡◌, ◌∙◌, ℕ, zero, suc, ◌<◌, ◌≤◌, ◌^◌, ◌+◌, List, length, take, flat_map, sym, ap, subst, arith, inl, inr, ◌⊎◌, ⊤, leb_tells, eqb_tells, IndexFault, TooShort, BadMagic, BadVersion, BadDigest, BadLayout, Record, IsFirstFaultOfFile, HasDigest, IsSigned, HasCounts, HasArchives, HasRecords, HasDirectory, digest_start, version_told, IsVersion, magic, DirectoryEntry, Archive, AreBytes}
 use Rattle.mail_index.specs.declared.view.fault.Section.TheVariants.{Counts, Archives, Records, Directory, Postings}
 use Rattle.mail_index.specs.Records.{read_records}
 use Rattle.mail_index.proofs.ViewLaws.ArchiveReads.{archives_back}
@@ -31,22 +31,22 @@ at-rank (suc (suc (suc (suc (suc (suc (suc zero))))))) = BadLayout Directory
 at-rank _ = BadLayout Postings
 
 at-its-rank : (f : IndexFault) → at-rank (rank f) ≡ f
-at-its-rank f = grind arith
+at-its-rank = grind arith
 
 module _ (bytes : List ℕ) (are : AreBytes bytes) where
   -- ---- the contents of the sections are determined
 
   same-archives : (as' bs : List Archive) → HasArchives bytes as' → HasArchives bytes bs → as' ≡ bs
-  same-archives as' bs a b = grind (arith, flat_map, archives_back)
+  same-archives = grind (arith, flat_map, archives_back)
 
   same-records : (archives : List Archive) (ms ns : List Record) → HasRecords bytes archives ms
       → HasRecords bytes archives ns → ms ≡ ns
   same-records archives ms ns a b =
       let few : length archives < 2 ^ 32 = omega (arith, a.before.counted, u32_small bytes 12 are) in
-      let e : flat_map record_bytes ms ≡ flat_map record_bytes ns = sym a.spelled ∙ b.spelled in
+      let e = sym a.spelled ∙ b.spelled in
       let l : length ms ≡ length ns = omega (arith, ap length e, length_records ms, length_records ns) in
-      sym (records_back (version_told bytes) archives ms few a.before.each a.each) ∙ (λ i. read_records (l i) (e i))
-      ∙ records_back (version_told bytes) archives ns few b.before.each b.each
+      sym (records_back _ _ _ few a.before.each a.each) ∙ (λ i. read_records (l i) (e i))
+      ∙ records_back _ _ _ few b.before.each b.each
 
   -- ---- each rule, as kept
 
@@ -88,15 +88,15 @@ module _ (bytes : List ℕ) (are : AreBytes bytes) where
   listed archives h = (counted h.before, (archives, h))
 
   recorded : (archives : List Archive) (ms : List Record) → HasRecords bytes archives ms → AreKept 7
-  recorded archives ms h = (listed archives h.before, (archives, ms, h))
+  recorded archives ms h = (listed _ h.before, (archives, ms, h))
 
   filed : (archives : List Archive) (ms : List Record) (es : List DirectoryEntry) → HasDirectory bytes archives ms es
       → AreKept 8
-  filed archives ms es h = (recorded archives ms h.before, (archives, ms, es, h))
+  filed archives ms es h = (recorded _ _ h.before, (archives, ms, es, h))
 
   -- all rules before a first fault are kept
   kept-before : (f : IndexFault) → IsFirstFaultOfFile bytes f → AreKept (rank f)
-  kept-before f h = grind (arith, signed, counted, listed, recorded, filed)
+  kept-before = grind (arith, signed, counted, listed, recorded, filed)
 
   -- the rule of a first fault isn't kept, unless it is the last
   not-kept : (f : IndexFault) → rank f < 8 → IsFirstFaultOfFile bytes f → IsKept (rank f) → ⊥
@@ -107,13 +107,13 @@ module _ (bytes : List ℕ) (are : AreBytes bytes) where
   not-kept (BadLayout Counts) last h k = h.1 k
   not-kept (BadLayout Archives) last h k = h.1 k.0 k.1
   not-kept (BadLayout Records) last h k =
-      h.2 k.1 (subst (λ (archives : List Archive). HasRecords bytes archives k.1) (same-archives k.0 h.0 k.2.before h.1)
+      h.2 k.1 (subst (λ archives. HasRecords bytes archives k.1) (same-archives _ _ k.2.before h.1)
       k.2)
   not-kept (BadLayout Directory) last h k = grind (arith, same-archives, same-records)
   not-kept (BadLayout Postings) last h k = absurd (omega (arith, last))
 
   never-before : (f g : IndexFault) → rank f < rank g → IsFirstFaultOfFile bytes f → IsFirstFaultOfFile bytes g → ⊥
-  never-before f g less h k = grind (arith, not-kept, kept-below, kept-before)
+  never-before = grind (arith, not-kept, kept-below, kept-before)
 
   pub one-first-fault : (f g : IndexFault) → IsFirstFaultOfFile bytes f → IsFirstFaultOfFile bytes g → f ≡ g
   one-first-fault f g h k = go by-rank

@@ -10,7 +10,7 @@ after [] zero a rest e = absurd cc
 after [] (suc n) a rest e = absurd cc
 after (b ∷ named) zero a rest e = cc
 after (b ∷ named) (suc n) a rest e = let more : suc n + 1 ≡ suc (n + 1) = omega arith
-    in ap (λ (k : ℕ). drop k (b ∷ named)) more ∙ after named n a rest e
+    in ap (λ k. drop k (b ∷ named)) more ∙ after named n a _ e
 
 -- the result at an archive
 pub at-archive : (named : List Archive) (paths : List (List ℕ)) (n : ℕ) (a : Archive) (rest : List Archive)
@@ -18,7 +18,7 @@ pub at-archive : (named : List Archive) (paths : List (List ℕ)) (n : ℕ) (a :
     → first_renamed n (drop n named) (drop n paths)
     ≡ cond (bytes_eq a.path (get_or paths n [])) (first_renamed (n + 1) (drop (n + 1) named) (drop (n + 1) paths))
     (Some n)
-at-archive named paths n a rest here below = grind (arith, drop-cons, after, add-one)
+at-archive = grind (arith, drop-cons, after, add-one)
 
 pub still-named : (named : List Archive) (n : ℕ) → n < length named → drop n named ≡ [] → ⊥
 still-named named n below none = omega (arith, length-drop n named, ap length none)

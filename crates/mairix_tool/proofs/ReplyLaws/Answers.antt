@@ -16,7 +16,7 @@ known-text Excerpt t h ns text tells = tells
 known-text Mbox t h ns text tells = tells
 
 keeps-appends : (a b : Option (List ℕ)) → Keeps a b → Appends a b []
-keeps-appends a b h = grind (arith, append-nil)
+keeps-appends = grind (arith, append-nil)
 
 keeps-sends : (a b : Option (List ℕ)) (text : List ℕ) → Keeps a b → Sends a b text
 keeps-sends a b text k = ([], text, refl, keeps-appends a b k)
@@ -33,14 +33,14 @@ module _ (t : Table) (s : Search) (h : List (List ℕ)) (old new : Option (List 
       → stale_archive t.archives h ≡ None
       → RepliesBy (IsAnswerOrStale t s h) (reply_of (Ok count)) old new
   ok-told count given fresh =
-      let some = some-chosen t s.threads s.query in
+      let some = some-chosen t _ _ in
       let went = given (answer_of_numbers t s (Some h) some.0) (some.0, some.1, refl) in
-      let text : List ℕ = answer_text s.format t h some.0 in
-      let same : text ≡ went.0 = known-text s.format t h some.0 went.0 went.1 in (
+      let text = answer_text s.format t h some.0 in
+      let same = known-text _ t h _ _ went.1 in (
         answer_of_text text (length some.0),
-        subst (λ (o : Option ℕ). IsStaleOr o (IsAnswerFrom t s h) (answer_of_text text (length some.0))) (sym fresh)
+        subst (λ o. IsStaleOr o (IsAnswerFrom t s h) (answer_of_text text (length some.0))) (sym fresh)
             (some.0, some.1, refl),
-        ap (λ (k : ℕ). record { status = status_of_count k; messages = k; fault = None }) went.2.0,
+        ap (λ k. record { status = status_of_count k; messages = k; fault = None }) went.2.0,
         subst (Appends old new) (sym same) went.2.1,
       )
 
@@ -50,7 +50,7 @@ module _ (t : Table) (s : Search) (h : List (List ℕ)) (old new : Option (List 
       → Sends old new answer.text
   front-sent fault given answer (numbers, chosen, is) =
       let went = given (answer_of_numbers t s (Some h) numbers) (numbers, chosen, refl) in
-      let text : answer.text ≡ went.0 = ap (λ (a : Answer). a.text) is ∙ known-text s.format t h numbers went.0 went.1
+      let text = ap (λ a. a.text) is ∙ known-text _ t h _ _ went.1
       in
       (went.2.went, went.2.unsent, text ∙ went.2.front, went.2.appends)
 
@@ -63,9 +63,9 @@ err-by F None kind.Device sent old new stale sends = sends
 err-by F None kind.OutOfMemory sent old new stale sends = sends
 err-by F None kind.OutFailed sent old new stale sends = sends
 err-by F (Some m) (kind.Stale n) sent old new stale sends = grind (arith, keeps-appends)
-err-by F (Some m) kind.Device sent old new stale sends = λ answer is. keeps-sends old new answer.text stale.1
-err-by F (Some m) kind.OutOfMemory sent old new stale sends = let kinds : kind.OutOfMemory ≡ kind.Stale m =
-    ap (λ (f : AnswerFault). f.kind) stale.0 in absurd cc
+err-by F (Some m) kind.Device sent old new stale sends = λ answer is. keeps-sends _ _ _ stale.1
+err-by F (Some m) kind.OutOfMemory sent old new stale sends = let kinds =
+    ap (λ f. f.kind) stale.0 in absurd cc
 err-by F (Some m) kind.OutFailed sent old new stale sends = let kinds : kind.OutFailed ≡ kind.Stale m =
     ap (λ (f : AnswerFault). f.kind) stale.0 in absurd cc
 
@@ -73,10 +73,10 @@ pub told-by : (t : Table) (s : Search) (h : List (List ℕ)) (old new : Option (
     → ((a : TableAnswer) → IsTableAnswer t s (Some h) a → SendsTableAnswer old new a r)
     → AnswersStale old new (stale_archive t.archives h) r
     → RepliesBy (IsAnswerOrStale t s h) (reply_of (run_of_answer r)) old new
-told-by t s h old new (Ok count) given fresh = ok-told t s h old new count given fresh
+told-by t s h old new (Ok count) given fresh = ok-told t s h _ _ _ given fresh
 told-by t s h old new (Err fault) given stale =
-    err-by (IsAnswerFrom t s h) (stale_archive t.archives h) fault.kind fault.sent old new stale
-    (front-sent t s h old new fault given)
+    err-by _ _ _ _ _ _ stale
+    (front-sent t s h _ _ fault given)
 
 -- whatever the archives hold, the messages are counted
 pub counted-by : (t : Table) (s : Search) (held : Option (List (List ℕ))) (old new : Option (List ℕ))
@@ -84,11 +84,11 @@ pub counted-by : (t : Table) (s : Search) (held : Option (List (List ℕ))) (old
     → IsCountedWhere t s held (reply_of (run_of_answer r)).fault (reply_of (run_of_answer r)) old new
 counted-by t s held old new (Err fault) given = tt
 counted-by t s held old new (Ok count) given =
-    let some = some-chosen t s.threads s.query in
+    let some = some-chosen t _ _ in
     let went = given (answer_of_numbers t s held some.0) (some.0, some.1, refl) in (
       some.0,
       some.1,
-      ap (λ (k : ℕ). record { status = status_of_count k; messages = k; fault = None }) went.2.0,
+      ap (λ k. record { status = status_of_count k; messages = k; fault = None }) went.2.0,
       went.0,
       went.1,
       went.2.1,

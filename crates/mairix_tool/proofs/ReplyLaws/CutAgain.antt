@@ -1,6 +1,6 @@
 -- An mbox answer over the table of its archives is cut again into its messages, because each was cut out of an archive.
 use Rattle.contract_words.specs.Archives.{archive_at}
-use Rattle.mairix_tool.proofs.Words.{◌≡◌, ◌∙◌, ℕ, zero, suc, ◌<◌, false, List, [], ◌∷◌, ◌++◌, Option, Some, None, length, map, take, drop, unwrap_or, refl, sym, ap, subst, arith, append_assoc, slice_index_or, option_map, map-append, length-map, length_push, get_or_at, All-map, flat_map-map, Record, Message, spans_of, messages, span_length, closed_text, span, answer_text, record_at, no_record, Mbox, messages_in, record_of, records_from, table}
+use Rattle.mairix_tool.proofs.Words.{◌≡◌, ◌∙◌, ℕ, zero, suc, ◌<◌, false, List, [], ◌∷◌, ◌++◌, Option, Some, None, length, map, take, drop, unwrap_or, refl, sym, ap, subst, arith, append_assoc, slice_index_or, option_map, map-append, length-map, length_push, get_or_at, All-map, flat_map-map, Record, Message, messages, span_length, closed_text, span, answer_text, record_at, Mbox, messages_in, record_of, records_from, table}
 use Rattle.std.specs.List.{All}
 use Rattle.mail_answer.specs.declared.format.Format.TheVariants as format
 use Rattle.mail_answer.specs.CutAgain.{IsCutOut, IsCutInto, ends_in_return}
@@ -10,7 +10,7 @@ use Rattle.mairix_tool.specs.CutAgain.{bytes_of_archives, spans_at}
 
 each-joined : {A : Type 0} (P : A → Type 0) (xs ys : List A) → Each P xs → Each P ys → Each P (xs ++ ys)
 each-joined P [] ys h k = k
-each-joined P (x ∷ xs) ys h k = (h.0, each-joined P xs ys h.1 k)
+each-joined P (x ∷ xs) ys h k = (h.0, each-joined P xs _ h.1 k)
 
 each-at : {A : Type 0} (P : A → Type 0) (xs : List A) (i : ℕ) (d : A) → i < length xs → Each P xs
     → P (slice_index_or xs i d)
@@ -28,8 +28,8 @@ each-cut : (all : List Mbox) (n : ℕ) (bytes : List ℕ) (before ms : List Mess
     → messages bytes ≡ Some (before ++ ms) → Each (IsOf all) (map (record_of n) ms)
 each-cut all n bytes before [] is cuts = tt
 each-cut all n bytes before (m ∷ ms) is cuts =
-    let spans : spans_of bytes ≡ Some (map span_of before ++ span_of m ∷ map span_of ms) =
-    ap (option_map (map span_of)) cuts ∙ ap Some (map-append span_of before (m ∷ ms)) in
+    let spans =
+    ap (option_map (map span_of)) cuts ∙ ap Some (map-append _ _ _) in
     let here : IsCutOut (take (span_length m) (drop m.offset bytes)) =
     record {
       archive = bytes;
@@ -39,32 +39,32 @@ each-cut all n bytes before (m ∷ ms) is cuts =
       is_cut = spans;
       is_text = refl;
     } in (
-      subst (λ (b : List ℕ). IsCutOut (take (span_length m) (drop m.offset b))) (sym is) here,
-      each-cut all n bytes (before ++ m ∷ []) ms is (cuts ∙ ap Some (sym (append_assoc before (m ∷ []) ms))),
+      subst (λ b. IsCutOut (take (span_length m) (drop m.offset b))) (sym is) here,
+      each-cut _ n _ (before ++ m ∷ []) ms is (cuts ∙ ap Some (sym (append_assoc before (m ∷ []) ms))),
     )
 
 each-in : (all : List Mbox) (n : ℕ) (bytes : List ℕ) → archive_at (bytes_of_archives all) n ≡ bytes
     → Each (IsOf all) (map (record_of n) (messages_in bytes))
-each-in all n bytes is = go (messages bytes) refl
+each-in all n bytes is = go _ refl
   where
     go : (o : Option (List Message)) → messages bytes ≡ o → Each (IsOf all) (map (record_of n) (unwrap_or o []))
     go None e = tt
-    go (Some ms) e = each-cut all n bytes [] ms is e
+    go (Some ms) e = each-cut _ n _ [] _ is e
 
 each-record : (n : ℕ) (before archives : List Mbox) → length before ≡ n
     → Each (IsOf (before ++ archives)) (records_from n archives)
 each-record n before [] long = tt
 each-record n before (a ∷ archives) long =
-    let is : archive_at (bytes_of_archives (before ++ a ∷ archives)) n ≡ a.bytes =
-    ap (λ (bs : List (List ℕ)). archive_at bs n) (map-append (λ (b : Mbox). b.bytes) before (a ∷ archives))
+    let is =
+    ap (λ bs. archive_at bs n) (map-append _ _ _)
     ∙ get_or_at (bytes_of_archives before) a.bytes (bytes_of_archives archives) [] n
-    (length-map before (λ (b : Mbox). b.bytes) ∙ long) in
-    let rest : Each (IsOf ((before ++ a ∷ []) ++ archives)) (records_from (suc n) archives) =
-    each-record (suc n) (before ++ a ∷ []) archives (omega (arith, length_push before a)) in
-    each-joined (IsOf (before ++ a ∷ archives)) (map (record_of n) (messages_in a.bytes))
-    (records_from (suc n) archives)
-    (each-in (before ++ a ∷ archives) n a.bytes is)
-    (subst (λ (all : List Mbox). Each (IsOf all) (records_from (suc n) archives))
+    (length-map before (λ b. b.bytes) ∙ long) in
+    let rest =
+    each-record (suc n) _ archives (omega (arith, length_push before a)) in
+    each-joined _ _
+    _
+    (each-in _ n _ is)
+    (subst (λ all. Each (IsOf all) (records_from (suc n) archives))
     (append_assoc before (a ∷ []) archives) rest)
 
 pub answer-cut-again : (archives : List Mbox) (numbers : List ℕ)
@@ -73,11 +73,11 @@ pub answer-cut-again : (archives : List Mbox) (numbers : List ℕ)
     → IsCutInto (answer_text format.Mbox (table archives) (bytes_of_archives archives) numbers)
     (map closed_text (spans_at archives numbers))
 answer-cut-again archives numbers within other =
-    let records : List Record = (table archives).messages in
+    let records = (table archives).messages in
     let span_at : ℕ → List ℕ = λ n. span (bytes_of_archives archives) (record_at records n) in
-    let each : Each (IsOf archives) records = each-record 0 [] archives refl in
-    let out : All IsCutOut (map span_at numbers) =
-    All-map IsCutOut span_at numbers (λ k d h. each-at (IsOf archives) records (slice_index_or numbers k d) no_record
+    let each = each-record 0 [] _ refl in
+    let out =
+    All-map IsCutOut _ _ (λ k d h. each-at _ _ _ _
     (within k d h) each) in
-    subst (λ (text : List ℕ). IsCutInto text (map closed_text (spans_at archives numbers)))
-    (flat_map-map closed_text span_at numbers) (cut-again (spans_at archives numbers) out other)
+    subst (λ text. IsCutInto text (map closed_text (spans_at archives numbers)))
+    (flat_map-map closed_text span_at numbers) (cut-again _ out other)

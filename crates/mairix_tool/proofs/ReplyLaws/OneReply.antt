@@ -1,8 +1,7 @@
 -- Two replies of one run are the same, unless an archive is refused twice, because the first faulty archive is
 -- determined.
-use Rattle.mairix_tool.proofs.Words.{◌≡◌, ◌∙◌, ◌^◌, ◌<◌, ◌++◌, ◌&&◌, ◌⊎◌, ℕ, Bool, true, false, cond, nat_le, List, [], ◌∷◌, map, length, Some, None, Option, Result, Ok, Err, unwrap_or, refl, sym, ap, ap₂, subst, arith, inl, inr, append-nil, length-append, length-map, IndexFault, AreBytes, Table, Search, answer_text, AreSound, Mbox, table, all_messages, messages_in, with_messages, RefusesArchives, mboxes, Fault, Wanted, Answer, answer_of_fault, answer_of_text, IsAnswer, IsAnswerFrom, IsAnswerOrStale, IsStoredAnswer, IsVerifiedAnswer, IsStaleOr, IsOldOr, IsReply, IsOnceReply, IsStoredReply, stale_archive, renamed_archive, unproved_archive, is_too_old, sound-not-refused}
+use Rattle.mairix_tool.proofs.Words.{◌≡◌, ◌∙◌, ◌^◌, ◌<◌, ◌++◌, ◌&&◌, ◌⊎◌, ℕ, Bool, true, false, cond, List, [], ◌∷◌, length, Some, None, Option, Result, Ok, Err, unwrap_or, refl, sym, ap, ap₂, subst, arith, inl, inr, append-nil, length-append, length-map, IndexFault, AreBytes, Table, Search, answer_text, AreSound, Mbox, table, all_messages, messages_in, with_messages, RefusesArchives, mboxes, Fault, Wanted, Answer, answer_of_fault, answer_of_text, IsAnswer, IsAnswerFrom, IsAnswerOrStale, IsStoredAnswer, IsVerifiedAnswer, IsStaleOr, IsOldOr, IsReply, IsOnceReply, IsStoredReply, stale_archive, renamed_archive, unproved_archive, is_too_old, sound-not-refused}
 use Rattle.std.proofs.lemmas.Grind.{flat_map-append}
-use Rattle.std.specs.Prelude.{nat_lt}
 use Rattle.index_job.specs.ArchiveRefusals.{IsCutOff, IsOneTooMany}
 use Rattle.index_job.proofs.TableSteps.{records-count}
 use Rattle.index_run.specs.ArchivesIndexed.{Parted}
@@ -10,8 +9,8 @@ use Rattle.mail_answer.proofs.OutputLaws.EveryAnswer.{one-choice}
 use Rattle.mail_index.proofs.FileLaws.Accepts.{no_fault}
 use Rattle.mail_index.proofs.FileLaws.SameTable.{same-table}
 use Rattle.mail_index.specs.Limits.{most_in_archive}
-use Rattle.mbox_cutter.specs.Archives.{grouped_lines, is_refused, marked_lines, messages, messages_from, total}
-use Rattle.mbox_cutter.specs.Events.{first_full_end, archive_refusal}
+use Rattle.mbox_cutter.specs.Archives.{grouped_lines, marked_lines, messages, messages_from, total}
+use Rattle.mbox_cutter.specs.Events.{archive_refusal}
 use Rattle.mbox_cutter.specs.Lines.{lines}
 use Rattle.mbox_cutter.specs.declared.event.CutFault.{CutFault}
 use Rattle.mbox_cutter.specs.declared.event.CutFault.TheVariants.{ArchiveTooLong, NotAnMbox}
@@ -32,17 +31,17 @@ module _ (t : Table) (s : Search) (held : List (List ℕ)) (a b : Answer) where
   one-found : IsAnswerFrom t s held a → IsAnswerFrom t s held b → a ≡ b
   one-found (xs, first, is) (ys, second, other) =
       is
-      ∙ ap (λ (ns : List ℕ). answer_of_text (answer_text s.format t held ns) (length ns))
-      (one-choice t s.threads s.query xs ys first second)
+      ∙ ap (λ ns. answer_of_text (answer_text s.format t held ns) (length ns))
+      (one-choice t _ _ _ _ first second)
       ∙ sym other
 
   one-told : IsAnswerOrStale t s held a → IsAnswerOrStale t s held b → a ≡ b
-  one-told = one-stale (stale_archive t.archives held) (IsAnswerFrom t s held) a b one-found
+  one-told = one-stale (stale_archive t.archives held) _ a b one-found
 
 one-answer : (archives : List Mbox) (s : Search) (a b : Answer) → IsAnswer archives s a → IsAnswer archives s b → a ≡ b
 one-answer archives s a b is other =
-    one-told (table archives) s (map (λ (m : Mbox). m.bytes) archives) a b (answer-told archives s a is)
-    (answer-told archives s b other)
+    one-told (table archives) s _ a b (answer-told _ s a is)
+    (answer-told _ s b other)
 
 -- ---- the first faulty archive
 
@@ -72,21 +71,21 @@ abbrev HasRefused : List Mbox → Fault → Type 0
 HasRefused archives f = (before : List Mbox) × (a : Mbox) × Parted archives before a × IsRefusedAfter before a f
 
 parted-so : (archives : List Mbox) (f : Fault) → RefusesArchives archives f → HasRefused archives f
-parted-so archives f h = grind arith
+parted-so = grind arith
 
 refused-so : (archives before : List Mbox) (a : Mbox) (f : Fault) → Parted archives before a → IsRefusedAfter before a f
     → RefusesArchives archives f
-refused-so archives before a f parted h = grind arith
+refused-so = grind arith
 
 sound-before : (before : List Mbox) (a : Mbox) (f : Fault) → IsRefusedAfter before a f → AreSound before
-sound-before before a f h = grind arith
+sound-before = grind arith
 
 -- sound archives have no refused one among them
 never-later : (before more ys : List Mbox) (a b : Mbox) (f g : Fault) → ys ≡ before ++ a ∷ more
     → IsRefusedAfter before a f → IsRefusedAfter ys b g → ⊥
 never-later before more ys a b f g whole h k =
-    sound-not-refused ys f (sound-before ys b g k)
-    (refused-so ys before a f (record { after = more; whole = whole }) h)
+    sound-not-refused _ f (sound-before _ b g k)
+    (refused-so _ _ a f (record { after = more; whole = whole }) h)
 
 -- ---- an archive that isn't an mbox has no messages, so it doesn't have too many
 
@@ -99,37 +98,28 @@ by-no-mbox false early true h = cc
 by-no-mbox false early false h = cc
 
 cut-by : (no_mbox long : Bool) (f : CutFault) → by-bytes no_mbox long ≡ Some f → (f ≡ NotAnMbox) ⊎ (f ≡ ArchiveTooLong)
-cut-by no_mbox long f h = grind arith
+cut-by = grind arith
 
 module _ (bytes : List ℕ) where
-  abbrev starts-late : Bool
-  starts-late = is_refused (marked_lines true (lines bytes))
-
-  abbrev ends-early : Bool
-  ends-early = nat_le (first_full_end (lines bytes)) most_in_archive
-
-  abbrev is-long : Bool
-  is-long = nat_lt most_in_archive (length bytes)
-
   none-in : archive_refusal most_in_archive bytes ≡ Some NotAnMbox → messages_in bytes ≡ []
   unfolding archive_refusal messages
   none-in h =
       let groups = grouped_lines (marked_lines true (lines bytes)) in
-      ap (λ (b : Bool). unwrap_or (cond b None (Some (messages_from (total groups.0) groups.1))) [])
-      (by-no-mbox starts-late ends-early is-long h)
+      ap (λ b. unwrap_or (cond b None (Some (messages_from (total groups.0) groups.1))) [])
+      (by-no-mbox _ _ _ h)
 
   -- if an archive is refused by its bytes, there are two possible faults
   cut-so : (f : CutFault) → archive_refusal most_in_archive bytes ≡ Some f → (f ≡ NotAnMbox) ⊎ (f ≡ ArchiveTooLong)
   unfolding archive_refusal
-  cut-so f h = cut-by (starts-late && ends-early) is-long f h
+  cut-so f h = cut-by _ _ f h
 
 none-more : (before : List Mbox) (a : Mbox) → messages_in a.bytes ≡ [] → all_messages (before ++ a ∷ [])
     ≡ all_messages before
-none-more before a none = grind (arith, flat_map-append, append-nil)
+none-more = grind (arith, flat_map-append, append-nil)
 
 no-mbox-few : (before : List Mbox) (a : Mbox) → IsCutOff before a NotAnMbox → IsOneTooMany before a → ⊥
 no-mbox-few before a cut many =
-    let same : all_messages (before ++ a ∷ []) ≡ all_messages before = none-more before a (none-in a.bytes cut.refused)
+    let same = none-more _ a (none-in _ cut.refused)
     in
     let keys : length (table (before ++ a ∷ [])).keys ≡ length (table before).keys =
     ap (λ ms. length (with_messages 0 ms [])) same in
@@ -146,12 +136,12 @@ AreAlike archives f g = (f ≡ g) ⊎ ((number : ℕ) × IsRefusedTwice archives
 module _ (archives before : List Mbox) (a : Mbox) (parted : Parted archives before a) where
   twice : (number : ℕ) (f : CutFault) → number ≡ length before → IsCutOff before a f → IsOneTooMany before a
       → IsRefusedTwice archives number × (f ≡ ArchiveTooLong)
-  twice number f at cut many = go (cut-so a.bytes f cut.refused)
+  twice number f at cut many = go (cut-so _ f cut.refused)
     where
       go : (f ≡ NotAnMbox) ⊎ (f ≡ ArchiveTooLong) → IsRefusedTwice archives number × (f ≡ ArchiveTooLong)
-      go (inl h) = absurd (no-mbox-few before a (subst (IsCutOff before a) h cut) many)
+      go (inl h) = absurd (no-mbox-few _ a (subst (IsCutOff before a) h cut) many)
       go (inr h) =
-          let long : IsCutOff before a ArchiveTooLong = subst (IsCutOff before a) h cut in
+          let long = subst (IsCutOff before a) h cut in
           (record { before = before; last = a; parted = parted; numbered = at; long = long; many = many }, h)
 
   here : (f g : Fault) → IsRefusedAfter before a f → IsRefusedAfter before a g → AreAlike archives f g
@@ -165,23 +155,23 @@ module _ (archives before : List Mbox) (a : Mbox) (parted : Parted archives befo
 
 alike : (archives : List Mbox) (f g : Fault) → RefusesArchives archives f → RefusesArchives archives g
     → AreAlike archives f g
-alike archives f g h k = go (parted-so archives f h) (parted-so archives g k)
+alike archives f g h k = go (parted-so _ f h) (parted-so _ g k)
   where
     go : HasRefused archives f → HasRefused archives g → AreAlike archives f g
-    go (xs, a, p, r) (ys, b, q, s) = by-order (ordered xs ys p.after q.after a b (sym p.whole ∙ q.whole))
+    go (xs, a, p, r) (ys, b, q, s) = by-order (ordered _ _ _ _ a b (sym p.whole ∙ q.whole))
       where
         by-order : AreOrdered xs a ys b → AreAlike archives f g
         by-order (inl same) =
-            let s' : IsRefusedAfter ys a g = subst (λ (m : Mbox). IsRefusedAfter ys m g) (sym same.1) s in
-            here archives xs a p f g r (subst (λ (l : List Mbox). IsRefusedAfter l a g) (sym same.0) s')
-        by-order (inr (inl later)) = absurd (never-later xs later.0 ys a b f g later.1 r s)
-        by-order (inr (inr later)) = absurd (never-later ys later.0 xs b a g f later.1 s r)
+            let s' = subst (λ m. IsRefusedAfter ys m g) (sym same.1) s in
+            here _ _ a p f g r (subst (λ l. IsRefusedAfter l a g) (sym same.0) s')
+        by-order (inr (inl later)) = absurd (never-later _ _ _ a b f g later.1 r s)
+        by-order (inr (inr later)) = absurd (never-later _ _ _ b a g f later.1 s r)
 
 -- ---- the replies
 
 module _ (archives : List Mbox) (a b : Answer) where
   one-refusal : IsRefusedBy archives a → IsRefusedBy archives b → (a ≡ b) ⊎ AreOfOneArchive archives a b
-  one-refusal (f, h, is) (g, k, other) = go (alike archives f g h k)
+  one-refusal (f, h, is) (g, k, other) = go (alike _ f g h k)
     where
       go : AreAlike archives f g → (a ≡ b) ⊎ AreOfOneArchive archives a b
       go (inl same) = inl (is ∙ ap answer_of_fault same ∙ sym other)
@@ -192,8 +182,8 @@ module _ (archives : List Mbox) (a b : Answer) where
       ⊎ IsRefusedBy archives a
       → (AreSound archives × IsFound b) ⊎ IsRefusedBy archives b → (a ≡ b) ⊎ AreOfOneArchive archives a b
   one-of IsFound same (inl h) (inl k) = inl (same h.1 k.1)
-  one-of IsFound same (inl h) (inr k) = absurd (sound-not-refused archives k.0 h.0 k.1)
-  one-of IsFound same (inr h) (inl k) = absurd (sound-not-refused archives h.0 k.0 h.1)
+  one-of IsFound same (inl h) (inr k) = absurd (sound-not-refused _ _ h.0 k.1)
+  one-of IsFound same (inr h) (inl k) = absurd (sound-not-refused _ _ k.0 h.1)
   one-of IsFound same (inr h) (inr k) = one-refusal h k
 
 pub one-reply : (asked : Result Wanted Fault) (bytes : List (List ℕ)) (a b : Answer) → IsReply asked bytes a
@@ -225,7 +215,7 @@ pub either-replied : (w : Wanted) (bytes held : List (List ℕ)) (number : ℕ) 
     → IsRefusedTwice (mboxes w.paths bytes) number → IsEither number answer
     → IsReply (Ok w) bytes answer × IsOnceReply (Ok w) bytes held answer
 either-replied w bytes held number answer t is =
-    let bad = either-refuses (mboxes w.paths bytes) number answer t is in (inr bad, inr bad)
+    let bad = either-refuses _ _ _ t is in (inr bad, inr bad)
 
 -- ---- a stored index
 

@@ -39,30 +39,30 @@ module _ {A O : Type 0} (g : Ghosts A) (h : OutGhosts O) (t : Table) (s : Search
   verified-searched true x new before after reply (Err e, verifies, same) searched = absurd cc
   verified-searched true x new before after reply (Ok y, verifies, same) searched = (read, Ok y, verifies, searched)
   verified-searched false x new before after reply asked searched =
-      subst (λ (a : A). Searches g h t s a new before after reply) asked.0 searched
+      subst (λ a. Searches g h t s a new before after reply) asked.0 searched
 
 -- an index that is refused can't be searched
 refused-index : (w : Wanted) (index : List ℕ) (few : length index < 2 ^ 64) (t : Table) (file : IsFileOfTable index t)
     (fault : Fault) → IsIndexRefusal w index fault
     → is_too_old t w ≡ false → renamed_archive t.archives w.paths ≡ None → ⊥
-refused-index w index few t file fault is fresh named = grind (arith, no_fault, same-table, false≢true)
+refused-index = grind (arith, no_fault, same-table, false≢true)
 
 module _ {A O : Type 0} (g : Ghosts A) (h : OutGhosts O) (w : Wanted) (index : List ℕ) (few : length index < 2 ^ 64)
     (t : Table) (file : IsFileOfTable index t) (old new : A) (before after : O) (reply : Reply) where
   pub refused-searched : (fault : Fault) → IsIndexRefusal w index fault
       → SearchesStored g h w t old new before after reply
-  refused-searched fault is fresh named = absurd (refused-index w index few t file fault is fresh named)
+  refused-searched fault is fresh named = absurd (refused-index w _ few t file _ is fresh named)
 
   pub opened-searched : (u : Table) → IsFileOfTable index u → SearchesFor g h w u old new before after reply
       → SearchesStored g h w t old new before after reply
   opened-searched u f searched fresh named =
-      inr (subst (λ (v : Table). SearchesFor g h w v old new before after reply) (same-table index t u few file f)
+      inr (subst (λ v. SearchesFor g h w v old new before after reply) (same-table _ t u few file f)
       searched)
 
 -- if words, rcfile and query are accepted, only lack of memory is left
 pub wants-memory : (asked : Result Wanted Fault) (w : Wanted) (fault : Fault) → asked ≡ Ok w
     → IfSome (refusal_of_fault fault) (λ r. asked ≡ Err r) → IsEarly fault → fault ≡ of.Memory
-wants-memory asked w fault is given early = grind arith
+wants-memory = grind arith
 
 pub asks-nothing : {A O : Type 0} (IsCause : Fault → Type 0) (fault : Fault) (archives : A) (out : O) → IsCause fault
     → AsksNothing IsCause archives archives out out (reply_of (Err fault))
@@ -71,7 +71,7 @@ asks-nothing IsCause fault archives out cause =
 
 -- words, rcfile and query have one meaning
 pub same-asked : (asked : Result Wanted Fault) (v w : Wanted) → asked ≡ Ok v → asked ≡ Ok w → v ≡ w
-same-asked asked v w h h2 = grind arith
+same-asked = grind arith
 
 -- ---- the table that was indexed
 
@@ -94,22 +94,22 @@ all-known (Some b ∷ old) = go (all-known old)
     go : ((bytes : List (List ℕ)) × (old ≡ map Some bytes)) ⊎ ((bytes : List (List ℕ)) → old ≡ map Some bytes → ⊥)
         → ((bytes : List (List ℕ)) × (Some b ∷ old ≡ map Some bytes))
         ⊎ ((bytes : List (List ℕ)) → Some b ∷ old ≡ map Some bytes → ⊥)
-    go (inl (bytes, is)) = inl (b ∷ bytes, ap (λ (l : List (Option (List ℕ))). Some b ∷ l) is)
+    go (inl (bytes, is)) = inl (b ∷ bytes, ap (λ l. Some b ∷ l) is)
     go (inr none) = inr (later none)
 
 -- whether something is still known of each source
 each-known : (new : List (Option (List ℕ))) → All IsSome new ⊎ (All IsSome new → ⊥)
-each-known [] = inl (All-nil IsSome)
+each-known [] = inl (All-nil _)
 each-known (None ∷ new) = inr (λ all. false≢true (All-head IsSome None new all))
 each-known (Some b ∷ new) =
     elim (each-known new) [
-      | inl all ↦ inl (All-cons IsSome (Some b) new refl all)
-      | inr none ↦ inr (λ all. none (All-tail IsSome (Some b) new all))
+      | inl all ↦ inl (All-cons IsSome (Some b) _ refl all)
+      | inr none ↦ inr (λ all. none (All-tail IsSome (Some b) _ all))
     ]
 
 known-or-not : (old new : List (Option (List ℕ))) → ((bytes : List (List ℕ)) × AreStillKnown old new bytes)
     ⊎ ((bytes : List (List ℕ)) → AreStillKnown old new bytes → ⊥)
-known-or-not old new = go (all-known old) (each-known new)
+known-or-not old new = go (all-known _) (each-known _)
   where
     go : ((bytes : List (List ℕ)) × (old ≡ map Some bytes)) ⊎ ((bytes : List (List ℕ)) → old ≡ map Some bytes → ⊥)
         → All IsSome new ⊎ (All IsSome new → ⊥)
@@ -143,11 +143,11 @@ module _ (paths : List (List ℕ)) (unread read : List (Option (List ℕ))) (are
       let found = known bytes still in (
         table archives,
         record {
-          formed = sound-table archives (named-paths paths bytes are) found.0;
-          known = λ others again. ap (λ (b : List (List ℕ)). table (mboxes paths b))
-              (same-known bytes others (sym still.0 ∙ again.0));
+          formed = sound-table _ (named-paths _ _ are) found.0;
+          known = λ others again. ap (λ b. table (mboxes paths b))
+              (same-known _ _ (sym still.0 ∙ again.0));
         },
-        ap but_digests found.1 ∙ same-but-digests LeftOut archives,
+        ap but_digests found.1 ∙ same-but-digests LeftOut _,
       )
 
   unknown-bytes : ((bytes : List (List ℕ)) → AreStillKnown unread read bytes → ⊥) → IsIndexed

@@ -1,6 +1,5 @@
 -- What a run leaves of its sources: it reads them only to index them.
-use Rattle.mairix_tool.proofs.Words.{◌≡◌, ℕ, List, length, None, Some, Result, Ok, Err, IfErr, refl, All-nil, Fault}
-use Rattle.std.specs.Io.KnownBytes.{IsAtEnd}
+use Rattle.mairix_tool.proofs.Words.{◌≡◌, ℕ, List, None, Some, Result, Ok, Err, IfErr, refl, All-nil, Fault}
 use Rattle.mbox_cutter.specs.declared.device.Source.{Ghosts}
 use Rattle.run_faults.specs.Faults.{IsEarly, IsOfAnswer, fault_in}
 use Rattle.run_faults.specs.declared.fault.Fault.TheVariants.{Usage, Rc, Query, Archive, Index, OldIndex, Stale, Device, Out, Memory, TooMany}
@@ -39,10 +38,10 @@ module _ {S : Type 0} (g : Ghosts S) (old new : List S) where
   -- a run that is refused early reads none
   pub none-read : (fault : Fault) → IsEarly fault → SourcesStay g (Some fault) old old
   none-read fault early = record {
-    each = stay-self g old;
+    each = stay-self g _;
     read = 0;
-    ends = All-nil (λ s. IsAtEnd (g.rest s));
-    many = none-of (length old) fault early;
+    ends = All-nil _;
+    many = none-of _ _ early;
     unread = refl;
   }
 
@@ -53,6 +52,6 @@ module _ {S : Type 0} (g : Ghosts S) (old new : List S) where
     each = stays.each;
     read = stays.read;
     ends = stays.ends;
-    many = all-of (length old) stays.read r own stays.many;
+    many = all-of _ _ r own stays.many;
     unread = stays.unread;
   }

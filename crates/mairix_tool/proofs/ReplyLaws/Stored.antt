@@ -21,31 +21,31 @@ first-named n [] bytes same = refl
 first-named n (p ∷ paths) [] same = absurd (omega (arith, same))
 first-named n (p ∷ paths) (b ∷ bytes) same =
     let rest : length paths ≡ length bytes = omega (arith, same) in
-    ap (λ (t : Bool). cond t (first_renamed (n + 1) (map entry_of_archive (mboxes paths bytes)) paths) (Some n))
+    ap (λ t. cond t (first_renamed (n + 1) (map entry_of_archive (mboxes paths bytes)) paths) (Some n))
     ((bytes_eq-Decides p p).1 refl) ∙ first-named (n + 1) paths bytes rest
 
 named-as : (paths bytes : List (List ℕ)) → length paths ≡ length bytes
     → renamed_archive (table (mboxes paths bytes)).archives paths ≡ None
-named-as paths bytes same = grind (arith, length-map, mboxes-length, eq-eqb, first-named)
+named-as = grind (arith, length-map, mboxes-length, eq-eqb, first-named)
 
 -- and their bytes have its digests
 proved-as : (verify : Bool) (paths bytes : List (List ℕ)) → length paths ≡ length bytes
     → unproved_archive verify (table (mboxes paths bytes)).archives bytes ≡ None
 proved-as false paths bytes same = refl
 proved-as true paths bytes same =
-    subst (λ (held : List (List ℕ)). unverified_archive (table (mboxes paths bytes)).archives held ≡ None)
-    (bytes-of-mboxes paths bytes same) (own-verified (mboxes paths bytes))
+    subst (λ held. unverified_archive (table (mboxes paths bytes)).archives held ≡ None)
+    (bytes-of-mboxes _ _ same) (own-verified (mboxes paths bytes))
 
 -- ---- what the table says
 
 -- of two archives that aren't as they were indexed, the first is reported
 join : (o p : Option ℕ) (IsFound : Answer → Type 0) (answer : Answer) → IsStaleOr o (IsStaleOr p IsFound) answer
     → IsStaleOr (option_or o p) IsFound answer
-join o p IsFound answer h = grind arith
+join o p IsFound = grind arith
 
 part : (o p : Option ℕ) (IsFound : Answer → Type 0) (answer : Answer) → IsStaleOr (option_or o p) IsFound answer
     → IsStaleOr o (IsStaleOr p IsFound) answer
-part o p IsFound answer h = grind arith
+part o p IsFound = grind arith
 
 neither : {o p : Option ℕ} → o ≡ None → p ≡ None → option_or o p ≡ None
 neither {o} {p} first second = ap (λ q. option_or q p) first ∙ second
@@ -53,16 +53,16 @@ neither {o} {p} first second = ap (λ q. option_or q p) first ∙ second
 -- archives that are as they were indexed
 pub none-altered : (paths bytes : List (List ℕ)) → length paths ≡ length bytes
     → altered_archive (mboxes paths bytes) paths bytes ≡ None
-none-altered paths bytes same = neither (named-as paths bytes same) (proved-as true paths bytes same)
+none-altered paths bytes same = neither (named-as _ _ same) (proved-as true _ _ same)
 
 -- an index that isn't too old has the digests that a run needs
 pub has-digests : (w : Wanted) (t : Table) → IsVersion t.version → is_too_old t w ≡ false → w.verify ≡ true → t.version
     ≡ 2
-has-digests w t h h2 h3 = grind (arith, false≢true)
+has-digests = grind (arith, false≢true)
 
 module _ (w : Wanted) (index : List ℕ) (few : length index < 2 ^ 64) (t : Table) (file : IsFileOfTable index t) where
   pub one-table : (u : Table) → IsFileOfTable index u → t ≡ u
-  one-table u f = same-table index u t few f file
+  one-table u f = same-table _ u t few f file
 
   -- an index that isn't too old
   module _ (held : List (List ℕ)) (fresh : is_too_old t w ≡ false) where
@@ -72,36 +72,36 @@ module _ (w : Wanted) (index : List ℕ) (few : length index < 2 ^ 64) (t : Tabl
 
     stored-by : (answer : Answer) → IsStaleOr altered (IsAnswerOrStale t w.search held) answer
         → IsStoredReply (Ok w) index held answer
-    stored-by answer is = grind (arith, part)
+    stored-by = grind (arith, part)
 
     told-by : (answer : Answer) → IsStoredReply (Ok w) index held answer
         → IsStaleOr altered (IsAnswerOrStale t w.search held) answer
-    told-by answer (inl bad) = absurd (no_fault index t few file bad.0 bad.1)
+    told-by answer (inl bad) = absurd (no_fault _ t few file _ bad.1)
     told-by answer (inr (u, f, told)) =
-        let here = subst (λ (v : Table). IsStoredAnswer w v held answer) (sym (one-table u f)) told in
-        let both = subst (λ (b : Bool). IsOldOr b
+        let here = subst (λ v. IsStoredAnswer w v held answer) (sym (one-table u f)) told in
+        let both = subst (λ b. IsOldOr b
         (IsStaleOr (renamed_archive t.archives w.paths) (IsVerifiedAnswer w t held)) answer) fresh here in
-        join (renamed_archive t.archives w.paths) (unproved_archive w.verify t.archives held)
-        (IsAnswerOrStale t w.search held)
-        answer both
+        join (renamed_archive t.archives w.paths) _
+        _
+        _ both
 
     -- the index has these paths
     pub stored-told : renamed_archive t.archives w.paths ≡ None → (reply : Reply) (old new : Option (List ℕ))
         → RepliesBy (IsVerifiedAnswer w t held) reply old new
         → RepliesBy (IsStoredReply (Ok w) index held) reply old new
     stored-told none reply old new given =
-        replies-as (IsVerifiedAnswer w t held) (IsStoredReply (Ok w) index held)
-        (λ answer is. stored-by answer (subst
-        (λ (o : Option ℕ). IsStaleOr (option_or o (unproved_archive w.verify t.archives held))
+        replies-as _ _
+        (λ answer is. stored-by _ (subst
+        (λ o. IsStaleOr (option_or o (unproved_archive w.verify t.archives held))
         (IsAnswerOrStale t w.search held) answer) (sym none) is))
-        (λ answer is. subst (λ (o : Option ℕ). IsStaleOr (option_or o (unproved_archive w.verify t.archives held))
-        (IsAnswerOrStale t w.search held) answer) none (told-by answer is))
-        reply old new given
+        (λ answer is. subst (λ o. IsStaleOr (option_or o (unproved_archive w.verify t.archives held))
+        (IsAnswerOrStale t w.search held) answer) none (told-by _ is))
+        _ _ _ given
 
   pub stored-counted : (u : Table) (held : Option (List (List ℕ))) (reply : Reply) (old new : Option (List ℕ))
       → IsFileOfTable index u → CountsVerified t w held reply old new → CountsVerified u w held reply old new
   stored-counted u held reply old new f given =
-      subst (λ (v : Table). CountsVerified v w held reply old new) (one-table u f) given
+      subst (λ v. CountsVerified v w held reply old new) (one-table u f) given
 
 -- archives that were verified before an answer were verified, whatever its result
 pub still-verified : (named : List Archive) (verify : Bool) (fault : Option Fault) → WereVerified named verify None
@@ -120,9 +120,9 @@ module _ (w : Wanted) (index : List ℕ) (few : length index < 2 ^ 64) (bytes : 
 
   pub told-once : (answer : Answer) → IsReply (Ok w) bytes answer → IsAnswerOrStale whole w.search bytes answer
   told-once answer is =
-      elim (reply-once (Ok w) bytes answer many is) [
+      elim (reply-once (Ok w) _ _ many is) [
         | inl told ↦ told.1
-        | inr bad ↦ absurd (sound-not-refused (mboxes w.paths bytes) bad.0 sound bad.1)
+        | inr bad ↦ absurd (sound-not-refused _ _ sound bad.1)
       ]
 
   -- through a table that says the same
@@ -134,22 +134,22 @@ module _ (w : Wanted) (index : List ℕ) (few : length index < 2 ^ 64) (bytes : 
       → (reply : Reply) (old new : Option (List ℕ)) → RepliesBy (IsStoredReply (Ok w) index bytes) reply old new
       → RepliesBy (IsReply (Ok w) bytes) reply old new
   stored-alike t file fresh named proved forth back reply old new given =
-      let none : option_or (renamed_archive t.archives w.paths) (unproved_archive w.verify t.archives bytes) ≡ None =
+      let none =
       neither named proved in
-      replies-as (IsStoredReply (Ok w) index bytes) (IsReply (Ok w) bytes)
-      (λ answer is. once-told answer (forth answer
-      (subst (λ (o : Option ℕ). IsStaleOr o (IsAnswerOrStale t w.search bytes) answer) none
-      (told-by w index few t file bytes fresh answer is))))
-      (λ answer is. stored-by w index few t file bytes fresh answer
-      (subst (λ (o : Option ℕ). IsStaleOr o (IsAnswerOrStale t w.search bytes) answer) (sym none)
-      (back answer (told-once answer is))))
-      reply old new given
+      replies-as _ _
+      (λ answer is. once-told _ (forth answer
+      (subst (λ o. IsStaleOr o (IsAnswerOrStale t w.search bytes) answer) none
+      (told-by w _ few t file _ fresh _ is))))
+      (λ answer is. stored-by w _ few t file _ fresh _
+      (subst (λ o. IsStaleOr o (IsAnswerOrStale t w.search bytes) answer) (sym none)
+      (back answer (told-once _ is))))
+      _ _ _ given
 
   -- with an index of the newest version
   stored-indexed : IsFileOfTable index whole → (reply : Reply) (old new : Option (List ℕ))
       → RepliesBy (IsStoredReply (Ok w) index bytes) reply old new → RepliesBy (IsReply (Ok w) bytes) reply old new
   stored-indexed file =
-      stored-alike whole file refl (named-as w.paths bytes many) (proved-as w.verify w.paths bytes many)
+      stored-alike _ file refl (named-as _ _ many) (proved-as _ _ _ many)
       (λ answer told. told) (λ answer told. told)
 
   -- with an index that has other digests
@@ -181,7 +181,7 @@ module _ (w : Wanted) (index : List ℕ) (few : length index < 2 ^ 64) (bytes : 
   stored-serving : All IsPath w.paths → ServesFor w whole index → (reply : Reply) (old new : Option (List ℕ))
       → RepliesBy (IsStoredReply (Ok w) index bytes) reply old new
       → RepliesBy (IsReply (Ok w) bytes) reply old new
-  stored-serving h h2 = grind (
+  stored-serving = grind (
     arith,
     stored-indexed,
     indexed-file,
@@ -198,20 +198,20 @@ module _ (w : Wanted) (index : List ℕ) (few : length index < 2 ^ 64) (before :
   stale-or : (o : Option ℕ) (IsFound IsOther : Answer → Type 0)
       → (o ≡ None → (answer : Answer) → IsFound answer → IsOther answer) → (answer : Answer)
       → IsStaleOr o IsFound answer → IsStaleOr o IsOther answer
-  stale-or o IsFound IsOther h answer h2 = grind arith
+  stale-or o IsFound IsOther = grind arith
 
   -- the bytes of archives that are verified are those that were indexed
   unaltered : altered_archive before w.paths bytes ≡ None → (length w.paths ≡ length bytes)
       × (before ≡ mboxes w.paths bytes)
-  unaltered none = the-same before w.paths bytes apart none
+  unaltered none = the-same _ _ _ apart none
 
   replied : altered_archive before w.paths bytes ≡ None → (answer : Answer)
       → IsAnswerOrStale (table before) w.search bytes answer → IsReply (Ok w) bytes answer
-  replied none answer told = grind (arith, unaltered, once-told)
+  replied = grind (arith, unaltered, once-told)
 
   told-again : altered_archive before w.paths bytes ≡ None → (answer : Answer) → IsReply (Ok w) bytes answer
       → IsAnswerOrStale (table before) w.search bytes answer
-  told-again none answer is = grind (arith, unaltered, told-once)
+  told-again = grind (arith, unaltered, told-once)
 
   abbrev by-tables : Bool → Option ℕ
   by-tables b = option_or (renamed_archive (table before).archives w.paths)
@@ -221,21 +221,21 @@ module _ (w : Wanted) (index : List ℕ) (few : length index < 2 ^ 64) (before :
       → RepliesBy (IsStoredReply (Ok w) index bytes) reply old new
       → RepliesBy (IsStaleOr (altered_archive before w.paths bytes) (IsReply (Ok w) bytes)) reply old new
   stored-verified reply old new given =
-      replies-as (IsStoredReply (Ok w) index bytes)
-      (IsStaleOr (altered_archive before w.paths bytes) (IsReply (Ok w) bytes))
+      replies-as _
+      _
       (λ answer is.
-      stale-or (altered_archive before w.paths bytes) (IsAnswerOrStale (table before) w.search bytes)
-      (IsReply (Ok w) bytes)
-      replied answer
-      (subst (λ (b : Bool). IsStaleOr (by-tables b) (IsAnswerOrStale (table before) w.search bytes) answer) verify
-      (told-by w index few (table before) file bytes refl answer is)))
+      stale-or _ _
+      _
+      replied _
+      (subst (λ b. IsStaleOr (by-tables b) (IsAnswerOrStale (table before) w.search bytes) answer) verify
+      (told-by w _ few _ file _ refl _ is)))
       (λ answer is.
-      stored-by w index few (table before) file bytes refl answer
-      (subst (λ (b : Bool). IsStaleOr (by-tables b) (IsAnswerOrStale (table before) w.search bytes) answer) (sym verify)
-      (stale-or (altered_archive before w.paths bytes) (IsReply (Ok w) bytes)
-      (IsAnswerOrStale (table before) w.search bytes)
-      told-again answer is)))
-      reply old new given
+      stored-by w _ few (table before) file _ refl _
+      (subst (λ b. IsStaleOr (by-tables b) (IsAnswerOrStale (table before) w.search bytes) answer) (sym verify)
+      (stale-or _ _
+      _
+      told-again _ is)))
+      _ _ _ given
 
 -- words, rcfile and query that are accepted have paths
 pub replies-by-messages : (asked : Result Wanted Fault) (index : List ℕ) → length index < 2 ^ 64
@@ -270,9 +270,9 @@ pub some-stored-reply : (index : List ℕ) (read : Result Table IndexFault) → 
 some-stored-reply index read file bad (Err fault) held = (answer_of_fault fault, refl)
 some-stored-reply index (Ok t) file bad (Ok w) held =
     let told = some-told t w.search held (stale_archive t.archives held) in
-    let proved = some-stale (unproved_archive w.verify t.archives held) (IsAnswerOrStale t w.search held) told in
-    let named = some-stale (renamed_archive t.archives w.paths) (IsVerifiedAnswer w t held) proved in
-    let some = some-old (is_too_old t w) (IsStaleOr (renamed_archive t.archives w.paths) (IsVerifiedAnswer w t held))
+    let proved = some-stale _ _ told in
+    let named = some-stale _ _ proved in
+    let some = some-old _ _
     named in
     (some.0, inr (t, file, some.1))
 some-stored-reply index (Err f) file bad (Ok w) held = (answer_of_fault (of.Index f), inl (f, bad, refl))
@@ -281,33 +281,33 @@ some-stored-reply index (Err f) file bad (Ok w) held = (answer_of_fault (of.Inde
 
 -- a fault that isn't of a device or of memory is a refusal
 refusal-known : (f : Fault) → is_failure (Some f) ≡ false → refusal_of_fault f ≡ Some f
-refusal-known f h = grind arith
+refusal-known = grind arith
 
 stored-refusal : (asked : Result Wanted Fault) (index : List ℕ) (held : List (List ℕ)) (f : Fault)
     → IsRefusedAs asked index f → IsStoredReply asked index held (answer_of_fault f)
-stored-refusal asked index held f h = grind arith
+stored-refusal = grind arith
 
 pub refused-stored : (asked : Result Wanted Fault) (index : List ℕ) (held : List (List ℕ)) (f : Fault)
     (old : Option (List ℕ)) → IfSome (refusal_of_fault f) (IsRefusedAs asked index)
     → RepliesBy (IsStoredReply asked index held) (reply_of (Err f)) old old
-refused-stored asked index held f old is = grind (arith, unanswered, stored-refusal, refusal-known)
+refused-stored = grind (arith, unanswered, stored-refusal, refusal-known)
 
 -- the reply if an archive isn't the indexed one, or couldn't be read to find out
 pub unproved-replied : (unproved : Option ℕ) (IsFound : Answer → Type 0) (f : Fault) (old : Option (List ℕ))
     → ReportsProved {T = Unit {0}} unproved (Err f)
     → RepliesBy (IsStaleOr unproved IsFound) (reply_of (Err f)) old old
-unproved-replied unproved IsFound f old tells = grind (arith, unanswered)
+unproved-replied unproved IsFound = grind (arith, unanswered)
 
 -- ---- a refusal has no other cause
 
 pub refused-for : (asked : Result Wanted Fault) (index : List ℕ) (f : Fault)
     → IfSome (refusal_of_fault f) (IsRefusedAs asked index) → IsForNoOtherCause asked index f
-refused-for asked index f h = grind arith
+refused-for = grind arith
 
 -- a fault of an answer isn't one of these
 pub answered-for : (asked : Result Wanted Fault) (index : List ℕ) (r : Result ℕ Fault) → IfErr r IsOfAnswer
     → IfSome (reply_of r).fault (IsForNoOtherCause asked index)
-answered-for asked index r h = grind arith
+answered-for = grind arith
 
 -- ---- an index is refused in one way
 
@@ -324,13 +324,13 @@ module _ (w : Wanted) (index : List ℕ) (few : length index < 2 ^ 64) where
   module _ (t : Table) (file : IsFileOfTable index t) where
     -- if one file is that of two tables, both are too old or neither is
     one-age : (u : Table) → IsFileOfTable index u → is_too_old t w ≡ is_too_old u w
-    one-age u f = ap (λ (v : Table). is_too_old v w) (same-table index u t few f file)
+    one-age u f = ap (λ v. is_too_old v w) (same-table _ u t few f file)
 
     pub one-too-old : is_too_old t w ≡ true → (fault : Fault) → IsIndexRefusal w index fault → Some of.OldIndex
         ≡ Some fault
-    one-too-old h fault h2 = grind (arith, no_fault, false≢true, one-age)
+    one-too-old = grind (arith, no_fault, false≢true, one-age)
 
     pub one-renamed : is_too_old t w ≡ false → (o : Option ℕ) → renamed_archive t.archives w.paths ≡ o → (fault : Fault)
         → IsIndexRefusal w index fault
         → option_map (λ n. of.Stale n) o ≡ Some fault
-    one-renamed h o h2 fault h3 = grind (arith, no_fault, false≢true, one-age, same-table)
+    one-renamed = grind (arith, no_fault, false≢true, one-age, same-table)

@@ -28,28 +28,28 @@ entries-same : (digests : Digests) (archives : List Mbox) → map without_digest
     ≡ map without_digest (map entry_of_archive archives)
 entries-same digests [] = refl
 entries-same digests (a ∷ archives) =
-    ap (λ (l : List Archive). without_digest (entry_of_archive a) ∷ l) (entries-same digests archives)
+    ap (λ l. without_digest (entry_of_archive a) ∷ l) (entries-same _ archives)
 
 pub same-but-digests : (digests : Digests) (archives : List Mbox) → but_digests (table_by digests archives)
     ≡ but_digests (table archives)
-same-but-digests digests archives = ap (λ (l : List Archive). record (table archives) { archives = l })
-    (entries-same digests archives)
+same-but-digests digests archives = ap (λ l. record (table archives) { archives = l })
+    (entries-same _ _)
 
 -- ---- what is read of archives without digests
 
 lengths-without : (named : List Archive) → indexed_lengths (map without_digest named) ≡ indexed_lengths named
 lengths-without [] = refl
-lengths-without (a ∷ named) = ap (λ (l : List ℕ). a.length ∷ l) (lengths-without named)
+lengths-without (a ∷ named) = ap (λ l. a.length ∷ l) (lengths-without named)
 
 front-without : (named : List Archive) (count : ℕ) → indexed_lengths (take count (map without_digest named))
     ≡ indexed_lengths (take count named)
 front-without named count = ap indexed_lengths (take-map without_digest count named)
-    ∙ lengths-without (take count named)
+    ∙ lengths-without _
 
 length-without : (named : List Archive) (n : ℕ) → length_in_table (map without_digest named) n
     ≡ length_in_table named n
 length-without named n =
-    ap (λ (o : Option Archive). option_map_or (λ a. a.length) o 0) (slice_get-map without_digest named n)
+    ap (λ o. option_map_or (λ a. a.length) o 0) (slice_get-map without_digest named n)
     ∙ go (slice_get named n)
   where
     go : (o : Option Archive) → option_map_or (λ a. a.length) (option_map without_digest o) 0
@@ -59,78 +59,78 @@ length-without named n =
 
 known-without : (format : Format) (t : Table) (held : Option (List (List ℕ))) (numbers : List ℕ)
     → known_answer format (but_digests t) held numbers ≡ known_answer format t held numbers
-known-without Raw t held numbers = ap Some (text-undigested t Raw [] numbers)
+known-without Raw t held numbers = ap Some (text-undigested t Raw [] _)
 known-without Excerpt t None numbers = refl
-known-without Excerpt t (Some held) numbers = ap Some (text-undigested t Excerpt held numbers)
+known-without Excerpt t (Some held) numbers = ap Some (text-undigested t Excerpt held _)
 known-without MboxFormat t held numbers = refl
 
 -- ---- two tables that differ only in their digests
 
 module _ (t u : Table) (same : but_digests t ≡ but_digests u) where
   named-same : map without_digest t.archives ≡ map without_digest u.archives
-  named-same = ap (λ (v : Table). v.archives) same
+  named-same = ap (λ v. v.archives) same
 
   many-same : length t.archives ≡ length u.archives
   many-same = sym (length-map t.archives without_digest) ∙ ap length named-same ∙ length-map u.archives without_digest
 
   front-same : (count : ℕ) → indexed_lengths (take count t.archives) ≡ indexed_lengths (take count u.archives)
-  front-same count = sym (front-without t.archives count)
-      ∙ ap (λ (l : List Archive). indexed_lengths (take count l)) named-same ∙ front-without u.archives count
+  front-same count = sym (front-without _ _)
+      ∙ ap (λ l. indexed_lengths (take count l)) named-same ∙ front-without _ _
 
   length-same : (n : ℕ) → length_in_table t.archives n ≡ length_in_table u.archives n
-  length-same n = sym (length-without t.archives n) ∙ ap (λ (l : List Archive). length_in_table l n) named-same
-      ∙ length-without u.archives n
+  length-same n = sym (length-without _ n) ∙ ap (λ l. length_in_table l n) named-same
+      ∙ length-without _ n
 
   stale-same : (held : List (List ℕ)) → stale_archive t.archives held ≡ stale_archive u.archives held
-  stale-same held = sym (stale-old t.archives held) ∙ ap (λ (l : List Archive). stale_archive l held) named-same
-      ∙ stale-old u.archives held
+  stale-same held = sym (stale-old t.archives _) ∙ ap (λ l. stale_archive l held) named-same
+      ∙ stale-old u.archives _
 
   known-same : (format : Format) (held : Option (List (List ℕ))) (numbers : List ℕ) → known_answer format t held numbers
       ≡ known_answer format u held numbers
-  known-same format held numbers = sym (known-without format t held numbers)
-      ∙ ap (λ (v : Table). known_answer format v held numbers) same ∙ known-without format u held numbers
+  known-same format held numbers = sym (known-without _ t _ _)
+      ∙ ap (λ v. known_answer format v held numbers) same ∙ known-without _ u _ _
 
   chosen-same : (s : Search) (numbers : List ℕ) → AreChosen (mail_of_table t) s numbers
       → AreChosen (mail_of_table u) s numbers
-  chosen-same s numbers chosen = subst (λ (v : Table). AreChosen (mail_of_table v) s numbers) same chosen
+  chosen-same s numbers chosen = subst (λ v. AreChosen (mail_of_table v) s numbers) same chosen
 
   chosen-back : (s : Search) (numbers : List ℕ) → AreChosen (mail_of_table u) s numbers
       → AreChosen (mail_of_table t) s numbers
-  chosen-back s numbers chosen = subst (λ (v : Table). AreChosen (mail_of_table v) s numbers) (sym same) chosen
+  chosen-back s numbers chosen = subst (λ v. AreChosen (mail_of_table v) s numbers) (sym same) chosen
 
   pub counted-alike : (s : Search) (held : Option (List (List ℕ))) (fault : Option Fault) (reply : Reply)
       (old new : Option (List ℕ)) → IsCountedWhere t s held fault reply old new
       → IsCountedWhere u s held fault reply old new
   counted-alike s held (Some fault) reply old new counted = tt
   counted-alike s held None reply old new (numbers, chosen, replied, text, known, sent) =
-      let same-text = subst (λ (o : Option (List ℕ)). IsIfKnown o text) (known-same s.format held numbers) known in
-      (numbers, chosen-same s numbers chosen, replied, text, same-text, sent)
+      let same-text = subst (λ o. IsIfKnown o text) (known-same _ _ _) known in
+      (numbers, chosen-same s _ chosen, replied, text, same-text, sent)
 
   module _ {A : Type 0} (g : Ghosts A) where
     agree-alike : (count : ℕ) (old new : A) → Agree g t.archives count old new → Agree g u.archives count old new
     agree-alike count old new agree = record {
-      told = subst (λ (l : List ℕ). TellLengths g 0 l old new) (front-same count) agree.told;
-      known = subst (λ (l : List ℕ). IfSome (g.held new) (λ archives. map length (take count archives) ≡ l))
-          (front-same count) agree.known;
+      told = subst (λ l. TellLengths g 0 l old new) (front-same _) agree.told;
+      known = subst (λ l. IfSome (g.held new) (λ archives. map length (take count archives) ≡ l))
+          (front-same _) agree.known;
     }
 
     asks-alike : (n : ℕ) (answer : Result ℕ DeviceFault) (old new : A) → AsksUpTo g t.archives n answer old new
         → AsksUpTo g u.archives n answer old new
     asks-alike n answer old new asked = record {
-      exists = subst (λ (k : ℕ). n < k) many-same asked.exists;
+      exists = subst (λ k. n < k) many-same asked.exists;
       before = asked.before;
-      agree = agree-alike n old asked.before asked.agree;
+      agree = agree-alike n _ _ asked.agree;
       last = asked.last;
       held = asked.held;
     }
 
     finds-alike : {T : Type 0} (old new : A) (told : Result T AnswerFaultKind) → FindsLengths g t.archives old new told
         → FindsLengths g u.archives old new told
-    finds-alike old new (Ok x) agree = subst (λ (k : ℕ). Agree g u.archives k old new) many-same
-        (agree-alike (length t.archives) old new agree)
+    finds-alike old new (Ok x) agree = subst (λ k. Agree g u.archives k old new) many-same
+        (agree-alike _ _ _ agree)
     finds-alike old new (Err (Stale n)) (other, differs, asked) =
-        (other, subst (λ (k : ℕ). other ≢ k) (length-same n) differs, asks-alike n (Ok other) old new asked)
-    finds-alike old new (Err Device) (n, fault, asked) = (n, fault, asks-alike n (Err fault) old new asked)
+        (other, subst (λ k. other ≢ k) (length-same n) differs, asks-alike n _ _ _ asked)
+    finds-alike old new (Err Device) (n, fault, asked) = (n, fault, asks-alike n _ _ _ asked)
     finds-alike old new (Err OutOfMemory) never = never
     finds-alike old new (Err OutFailed) never = never
 
@@ -142,15 +142,15 @@ module _ (t u : Table) (same : but_digests t ≡ but_digests u) where
       held = goes.held;
       once = goes.once;
       raw = goes.raw;
-      stale = subst (λ (v : Table). IfErr result (λ fault. IfStale fault.kind (IsArchiveOfChosen v s))) same goes.stale;
-      messages = subst (λ (v : Table). ReadsChosen g v s found new result) same goes.messages;
+      stale = subst (λ v. IfErr result (λ fault. IfStale fault.kind (IsArchiveOfChosen v s))) same goes.stale;
+      messages = subst (λ v. ReadsChosen g v s found new result) same goes.messages;
     }
 
     order-alike : (s : Search) (old new : A) (result : Result ℕ AnswerFault) → ReadsInOrder g t s old new result
         → ReadsInOrder g u s old new result
     order-alike s old new result order = record {
       other_count = λ other. subst
-          (λ (k : ℕ). (result ≡ Err (record { kind = Stale (min (g.number old) k); sent = 0 })) × (new ≡ old)) many-same
+          (λ k. (result ≡ Err (record { kind = Stale (min (g.number old) k); sent = 0 })) × (new ≡ old)) many-same
           (order.other_count (λ e. other (e ∙ many-same)));
       same_count = λ e.
           let first = order.same_count (e ∙ sym many-same) in
@@ -159,10 +159,10 @@ module _ (t u : Table) (same : but_digests t ≡ but_digests u) where
             lengths = (
               asked.0,
               asked.1,
-              finds-alike old asked.0 asked.1 asked.2,
-              goes-on-alike s asked.1 asked.0 new result asked.3,
+              finds-alike _ _ _ asked.2,
+              goes-on-alike s _ _ _ _ asked.3,
             );
-            below = subst (λ (k : ℕ). IfErr result (λ fault. IfStale fault.kind (λ n. n < k))) many-same first.below;
+            below = subst (λ k. IfErr result (λ fault. IfStale fault.kind (λ n. n < k))) many-same first.below;
           };
     }
 
@@ -170,9 +170,9 @@ module _ (t u : Table) (same : but_digests t ≡ but_digests u) where
         → IsTableAnswer t s held a
     answer-back s held a (numbers, chosen, is) = (
       numbers,
-      chosen-back s numbers chosen,
-      is ∙ ap (λ (o : Option (List ℕ)). record { text = o; messages = length numbers })
-          (sym (known-same s.format held numbers)),
+      chosen-back s _ chosen,
+      is ∙ ap (λ o. record { text = o; messages = length numbers })
+          (sym (known-same _ _ _)),
     )
 
     stale-alike : (before after : Option (List ℕ)) (held : Option (List (List ℕ))) (found : Result ℕ AnswerFault)
@@ -180,19 +180,19 @@ module _ (t u : Table) (same : but_digests t ≡ but_digests u) where
         → IfSome held (λ bytes. AnswersStale before after (stale_archive u.archives bytes) found)
     stale-alike before after None found told = tt
     stale-alike before after (Some held) found told =
-        subst (λ (o : Option ℕ). AnswersStale before after o found) (stale-same held) told
+        subst (λ o. AnswersStale before after o found) (stale-same _) told
 
     pub searches-alike : {O : Type 0} (h : OutGhosts O) (s : Search) (old new : A) (before after : O) (reply : Reply)
         → Searches g h t s old new before after reply → Searches g h u s old new before after reply
     searches-alike h s old new before after reply searched = record {
       found = searched.found;
       replied = searched.replied;
-      answered = λ a is. searched.answered a (answer-back s (g.held new) a is);
+      answered = λ a is. searched.answered a (answer-back s _ a is);
       spans = λ mbox numbers chosen.
-          subst (λ (v : Table). SendsSpans (h.taken before) (h.taken after) v numbers searched.found) same
-          (searched.spans mbox numbers (chosen-back s numbers chosen));
-      stale = stale-alike (h.taken before) (h.taken after) (g.held new) searched.found searched.stale;
+          subst (λ v. SendsSpans (h.taken before) (h.taken after) v numbers searched.found) same
+          (searched.spans mbox numbers (chosen-back s _ chosen));
+      stale = stale-alike _ _ _ _ searched.stale;
       unsent = searched.unsent;
-      order = order-alike s old new searched.found searched.order;
+      order = order-alike s _ _ _ searched.order;
       keeps = searched.keeps;
     }

@@ -23,14 +23,14 @@ length-old (a ∷ archives) (suc n) = length-old archives n
 placed-same : (xs ys : List Archive) → map without_digest xs ≡ map without_digest ys → (m : Record) → IsMessage xs m
     → IsMessage ys m
 placed-same xs ys same m is =
-    let many : length xs ≡ length ys = sym (length-map xs without_digest) ∙ ap length same
+    let many = sym (length-map xs without_digest) ∙ ap length same
     ∙ length-map ys without_digest in
-    let long : archive_length xs m.archive ≡ archive_length ys m.archive =
-    sym (length-old xs m.archive) ∙ ap (λ (l : List Archive). archive_length l m.archive) same ∙ length-old ys m.archive
+    let long =
+    sym (length-old xs _) ∙ ap (λ l. archive_length l m.archive) same ∙ length-old ys _
     in
     record {
-      exists = subst (λ (n : ℕ). m.archive < n) many is.exists;
-      within = subst (λ (n : ℕ). m.offset + m.length ≤ n) long is.within;
+      exists = subst (λ n. m.archive < n) many is.exists;
+      within = subst (λ n. m.offset + m.length ≤ n) long is.within;
       size = is.size;
       date = is.date;
     }
@@ -38,7 +38,7 @@ placed-same xs ys same m is =
 without-twice : (archives : List Archive) → map without_digest archives
     ≡ map without_digest (map without_digest archives)
 without-twice [] = refl
-without-twice (a ∷ archives) = ap (λ (l : List Archive). without_digest a ∷ l) (without-twice archives)
+without-twice (a ∷ archives) = ap (λ l. without_digest a ∷ l) (without-twice archives)
 
 -- archives with digests that differ from valid ones only in these are valid too
 named-otherwise : (xs ys : List Archive) → map without_digest xs ≡ map without_digest ys
@@ -50,9 +50,9 @@ named-otherwise (x ∷ xs) [] same all digests = absurd cc
 named-otherwise (x ∷ xs) (y ∷ ys) same all digests =
     let first : without_digest x ≡ without_digest y = cc in
     let rest : map without_digest xs ≡ map without_digest ys = cc in
-    let path : x.path ≡ y.path = ap (λ (a : Archive). a.path) first in
-    let long : x.length ≡ y.length = ap (λ (a : Archive). a.length) first in (
-      (subst IsPath path all.0.0, subst (λ (n : ℕ). n ≤ most_in_archive) long all.0.1, digests.0),
+    let path = ap (λ a. a.path) first in
+    let long = ap (λ a. a.length) first in (
+      (subst IsPath path all.0.0, subst (λ n. n ≤ most_in_archive) long all.0.1, digests.0),
       named-otherwise xs ys rest all.1 digests.1,
     )
 
@@ -60,7 +60,7 @@ named-otherwise (x ∷ xs) (y ∷ ys) same all digests =
 
 few-kept : (ks : List Key) → length (keys_but_names ks) ≤ length ks
 few-kept [] = omega arith
-few-kept (k ∷ ks) = go (is_of_kind (Text Name) k) (few-kept ks)
+few-kept (k ∷ ks) = go _ (few-kept ks)
   where
     go : (named : Bool) → length (keys_but_names ks) ≤ length ks
         → length (cond (not named) (k ∷ keys_but_names ks) (keys_but_names ks)) ≤ length (k ∷ ks)
@@ -69,7 +69,7 @@ few-kept (k ∷ ks) = go (is_of_kind (Text Name) k) (few-kept ks)
 keys-old : (count : ℕ) (ks : List Key) → AllByRecursion (IsKey newest count) ks
     → AllByRecursion (IsKey 1 count) (keys_but_names ks)
 keys-old count [] all = tt
-keys-old count (k ∷ ks) all = go (is_of_kind (Text Name) k) refl (keys-old count ks all.1)
+keys-old count (k ∷ ks) all = go _ refl (keys-old _ ks all.1)
   where
     go : (named : Bool) → is_of_kind (Text Name) k ≡ named → AllByRecursion (IsKey 1 count) (keys_but_names ks)
         → AllByRecursion (IsKey 1 count) (cond (not named) (k ∷ keys_but_names ks) (keys_but_names ks))
@@ -77,23 +77,23 @@ keys-old count (k ∷ ks) all = go (is_of_kind (Text Name) k) refl (keys-old cou
 
 before-kept : (a : Key) (ks : List Key) → BeforeAll a ks → BeforeAll a (keys_but_names ks)
 before-kept a [] before = tt
-before-kept a (k ∷ ks) before = go (is_of_kind (Text Name) k) (before-kept a ks before.1)
+before-kept a (k ∷ ks) before = go _ (before-kept a ks before.1)
   where
     go : (named : Bool) → BeforeAll a (keys_but_names ks)
         → BeforeAll a (cond (not named) (k ∷ keys_but_names ks) (keys_but_names ks))
     go named h = grind arith
 
 next-sorted : (a : Key) (ks : List Key) → BeforeAll a ks → AllNext KeyBefore ks → AllNext KeyBefore (a ∷ ks)
-next-sorted a ks h h2 = grind arith
+next-sorted = grind arith
 
 sorted-old : (ks : List Key) → AllNext KeyBefore ks → AllNext KeyBefore (keys_but_names ks)
 sorted-old [] sorted = tt
-sorted-old (k ∷ ks) sorted = go (is_of_kind (Text Name) k) (sorted-old ks (rest-sorted k ks sorted))
+sorted-old (k ∷ ks) sorted = go _ (sorted-old ks (rest-sorted k _ sorted))
   where
     go : (named : Bool) → AllNext KeyBefore (keys_but_names ks)
         → AllNext KeyBefore (cond (not named) (k ∷ keys_but_names ks) (keys_but_names ks))
     go true rest = rest
-    go false rest = next-sorted k (keys_but_names ks) (before-kept k ks (below-all k ks sorted)) rest
+    go false rest = next-sorted k _ (before-kept k _ (below-all k _ sorted)) rest
 
 -- ---- the tables
 
@@ -102,7 +102,7 @@ module _ (archives : List Mbox) (paths : All (λ (a : Mbox). IsPath a.path) arch
   whole = table archives
 
   formed : IsWellFormed whole
-  formed = sound-table archives paths sound
+  formed = sound-table _ paths sound
 
   pub old-formed : IsWellFormed (old_table whole)
   old-formed = record {
@@ -110,29 +110,29 @@ module _ (archives : List Mbox) (paths : All (λ (a : Mbox). IsPath a.path) arch
     archive_count = omega (arith, length-map whole.archives without_digest, formed.archive_count);
     message_count = formed.message_count;
     key_count = omega (arith, few-kept whole.keys, formed.key_count);
-    archives = named-old whole.archives formed.archives;
-    messages = all-weaker (IsMessage whole.archives) (IsMessage (map without_digest whole.archives))
-        (placed-same whole.archives (map without_digest whole.archives) (without-twice whole.archives)) whole.messages
+    archives = named-old _ formed.archives;
+    messages = all-weaker _ _
+        (placed-same _ _ (without-twice _)) _
         formed.messages;
     in_order = formed.in_order;
-    keys = keys-old (length whole.messages) whole.keys formed.keys;
-    sorted = sorted-old whole.keys formed.sorted;
+    keys = keys-old _ _ formed.keys;
+    sorted = sorted-old _ formed.sorted;
   }
 
   -- a table that differs only in its digests
   pub otherwise-formed : (t : Table) → but_digests t ≡ but_digests whole → HasDigests t → IsWellFormed t
   otherwise-formed t same digests =
-      let back : but_digests whole ≡ but_digests t = sym same in
-      let version : newest ≡ t.version = ap (λ (u : Table). u.version) back in
-      let named : map without_digest whole.archives ≡ map without_digest t.archives =
-      ap (λ (u : Table). u.archives) back in
-      let messages : whole.messages ≡ t.messages = ap (λ (u : Table). u.messages) back in
-      let keys : whole.keys ≡ t.keys = ap (λ (u : Table). u.keys) back in
-      let listed : AllByRecursion (IsKey newest (length t.messages)) whole.keys =
-      subst (λ (ms : List Record). AllByRecursion (IsKey newest (length ms)) whole.keys) messages formed.keys in
-      let placed : AllByRecursion (IsMessage t.archives) whole.messages =
-      all-weaker (IsMessage whole.archives) (IsMessage t.archives) (placed-same whole.archives t.archives named)
-      whole.messages formed.messages in
+      let back = sym same in
+      let version = ap (λ u. u.version) back in
+      let named =
+      ap (λ u. u.archives) back in
+      let messages = ap (λ u. u.messages) back in
+      let keys = ap (λ u. u.keys) back in
+      let listed =
+      subst (λ ms. AllByRecursion (IsKey newest (length ms)) whole.keys) messages formed.keys in
+      let placed =
+      all-weaker _ _ (placed-same _ _ named)
+      _ formed.messages in
       record {
         version = inr (sym version);
         archive_count = omega (
@@ -144,14 +144,14 @@ module _ (archives : List Mbox) (paths : All (λ (a : Mbox). IsPath a.path) arch
         );
         message_count = omega (arith, ap length messages, formed.message_count);
         key_count = omega (arith, ap length keys, formed.key_count);
-        archives = subst (λ (v : ℕ). AllByRecursion (IsArchive v) t.archives) version
-            (named-otherwise whole.archives t.archives named formed.archives
-            (recursion_from_All (λ (a : Archive). IsDigest newest a.digest) t.archives digests));
-        messages = subst (λ (ms : List Record). AllByRecursion (IsMessage t.archives) ms) messages placed;
-        in_order = subst (λ (ms : List Record). AllNext Follows ms) messages formed.in_order;
-        keys = subst (λ (v : ℕ). AllByRecursion (IsKey v (length t.messages)) t.keys) version
-            (subst (λ (ks : List Key). AllByRecursion (IsKey newest (length t.messages)) ks) keys listed);
-        sorted = subst (λ (ks : List Key). AllNext KeyBefore ks) keys formed.sorted;
+        archives = subst (λ v. AllByRecursion (IsArchive v) t.archives) version
+            (named-otherwise _ _ named formed.archives
+            (recursion_from_All _ _ digests));
+        messages = subst (λ ms. AllByRecursion (IsMessage t.archives) ms) messages placed;
+        in_order = subst (λ ms. AllNext Follows ms) messages formed.in_order;
+        keys = subst (λ v. AllByRecursion (IsKey v (length t.messages)) t.keys) version
+            (subst (λ ks. AllByRecursion (IsKey newest (length t.messages)) ks) keys listed);
+        sorted = subst (λ ks. AllNext KeyBefore ks) keys formed.sorted;
       }
 
 -- ---- the files
@@ -159,15 +159,15 @@ module _ (archives : List Mbox) (paths : All (λ (a : Mbox). IsPath a.path) arch
 -- archives that were indexed by paths have these paths
 pub named-paths : (paths bytes : List (List ℕ)) → All IsPath paths
     → All (λ (a : Mbox). IsPath a.path) (mboxes paths bytes)
-named-paths [] bytes all = All-nil (λ (a : Mbox). IsPath a.path)
-named-paths (p ∷ paths) [] all = All-nil (λ (a : Mbox). IsPath a.path)
+named-paths [] bytes all = All-nil _
+named-paths (p ∷ paths) [] all = All-nil _
 named-paths (p ∷ paths) (b ∷ bytes) all =
-    All-cons (λ (a : Mbox). IsPath a.path) (record { path = p; bytes = b }) (mboxes paths bytes)
-    (All-head IsPath p paths all) (named-paths paths bytes (All-tail IsPath p paths all))
+    All-cons (λ a. IsPath a.path) _ _
+    (All-head IsPath p paths all) (named-paths paths bytes (All-tail IsPath p _ all))
 
 pub whole-file : (archives : List Mbox) (index : List ℕ) → All (λ (a : Mbox). IsPath a.path) archives
     → AreSound archives → index ≡ index_file (table archives) → IsFileOfTable index (table archives)
-whole-file archives index paths sound is = (sound-table archives paths sound, is)
+whole-file archives index paths sound is = (sound-table _ paths sound, is)
 
 module _ (paths bytes : List (List ℕ)) (index : List ℕ) (are : All IsPath paths) (sound : AreSound (mboxes paths bytes))
   where
@@ -175,7 +175,7 @@ module _ (paths bytes : List (List ℕ)) (index : List ℕ) (are : All IsPath pa
     indexed = table (mboxes paths bytes)
 
     pub indexed-file : index ≡ index_file indexed → IsFileOfTable index indexed
-    indexed-file is = whole-file (mboxes paths bytes) index (named-paths paths bytes are) sound is
+    indexed-file is = whole-file _ _ (named-paths _ _ are) sound is
 
     pub otherwise-file : (t : Table) → but_digests t ≡ but_digests indexed → HasDigests t → index ≡ index_file t
         → IsFileOfTable index t

@@ -1,5 +1,5 @@
 -- The keys of a table say about a message what its own terms say, because each term was added with its number.
-use Rattle.mairix_tool.proofs.Words.{◌≡◌, ◌∙◌, ℕ, zero, suc, ◌+◌, ◌<◌, Bool, true, false, cond, List, [], ◌∷◌, ◌++◌, length, map, filter, refl, ap, arith, ◌&&◌, ◌||◌, list_any, bytes_eq, bytes_eq-Decides, nat_tests, Kind, Key, KeyBefore, AllNext, is_of_kind, keys_of, is_number_among, texts_with, Message, text, Term, message_terms, with_messages}
+use Rattle.mairix_tool.proofs.Words.{◌≡◌, ◌∙◌, ℕ, zero, suc, ◌+◌, ◌<◌, Bool, true, false, cond, List, [], ◌∷◌, ◌++◌, length, map, filter, refl, ap, arith, ◌&&◌, ◌||◌, list_any, bytes_eq-Decides, nat_tests, Kind, Key, KeyBefore, AllNext, is_of_kind, keys_of, is_number_among, texts_with, Message, text, Term, message_terms, with_messages}
 use Rattle.std.specs.Cmp.{both_ways}
 use Rattle.mail_index.specs.LookUps.{is_key, numbers_at}
 use Rattle.index_job.specs.MessageTerms.{has_term}
@@ -21,7 +21,7 @@ terms-here : (n : ℕ) (before : List Message) (m : Message) (after : List Messa
 terms-here zero [] m after h = refl
 terms-here zero (x ∷ before) m after h = absurd (omega (arith, h))
 terms-here (suc n) [] m after h = absurd (omega (arith, h))
-terms-here (suc n) (x ∷ before) m after h = terms-here n before m after (omega (arith, h))
+terms-here (suc n) (x ∷ before) m after h = terms-here n before m _ (omega (arith, h))
 
 module _ (kind : Kind) (term : List ℕ) where
   none-below : (n low : ℕ) (ms : List Message) → n < low → is_number_among n (numbers_from kind term low ms) ≡ false
@@ -51,7 +51,7 @@ says kind n passes k = is_of_kind kind k && (is_number_among n k.numbers && pass
 texts-say : (kind : Kind) (n : ℕ) (passes : List ℕ → Bool) (ks : List Key)
     → list_any passes (texts_with kind n ks) ≡ list_any (says kind n passes) ks
 texts-say kind n passes [] = refl
-texts-say kind n passes (k ∷ ks) = go (is_of_kind kind k) (texts-say kind n passes ks)
+texts-say kind n passes (k ∷ ks) = go _ (texts-say _ n _ ks)
   where
     with_number_too : (among : Bool) → list_any passes (texts_with kind n ks) ≡ list_any (says kind n passes) ks
         → list_any passes (map (λ (key : Key). key.text)
@@ -75,7 +75,7 @@ module _ (kind : Kind) (n : ℕ) (passes : List ℕ → Bool) where
   key-found : (ks : List Key) → AllNext KeyBefore ks → list_any (says kind n passes) ks ≡ true
       → SomePasses passes (λ term. is_number_among n (numbers_at kind term ks))
   key-found [] sorted e = absurd cc
-  key-found (k ∷ ks) sorted e = go (says kind n passes k) refl e (key-found ks (rest-sorted k ks sorted))
+  key-found (k ∷ ks) sorted e = go _ refl e (key-found ks (rest-sorted k _ sorted))
     where
       other : (term : List ℕ) → is_number_among n (numbers_at kind term ks) ≡ true
           → is_number_among n (numbers_at kind term (k ∷ ks))
@@ -83,7 +83,7 @@ module _ (kind : Kind) (n : ℕ) (passes : List ℕ → Bool) where
       other term h = by_key (is_key kind term k) refl
         where
           by_key : (b : Bool) → is_key kind term k ≡ b → is_number_among n (numbers_at kind term (k ∷ ks)) ≡ true
-          by_key true is = grind (arith, key-same kind term k is, none-after k ks sorted)
+          by_key true is = grind (arith, key-same _ _ k is, none-after k _ sorted)
           by_key false is = grind arith
 
       go : (b : Bool) → says kind n passes k ≡ b → (b || list_any (says kind n passes) ks) ≡ true
@@ -99,25 +99,25 @@ module _ (kind : Kind) (n : ℕ) (passes : List ℕ → Bool) where
   key-says : (term : List ℕ) → passes term ≡ true → (ks : List Key) → is_number_among n (numbers_at kind term ks) ≡ true
       → list_any (says kind n passes) ks ≡ true
   key-says term h [] e = absurd cc
-  key-says term h (k ∷ ks) e = go (is_key kind term k) refl (key-says term h ks)
+  key-says term h (k ∷ ks) e = go _ refl (key-says _ h ks)
     where
       go : (b : Bool) → is_key kind term k ≡ b
           → (is_number_among n (numbers_at kind term ks) ≡ true → list_any (says kind n passes) ks ≡ true)
           → list_any (says kind n passes) (k ∷ ks) ≡ true
-      go true is rest = grind (arith, key-same kind term k is)
+      go true is rest = grind (arith, key-same _ _ k is)
       go false is rest = grind (arith, rest)
 
   -- from the terms
   term-found : (ts : List Term) → list_any (term_says kind passes) ts ≡ true
       → SomePasses passes (λ term. has_term kind term ts)
   term-found [] e = absurd cc
-  term-found (t ∷ ts) e = go (term_says kind passes t) refl e (term-found ts)
+  term-found (t ∷ ts) e = go _ refl e (term-found ts)
     where
       go : (b : Bool) → term_says kind passes t ≡ b → (b || list_any (term_says kind passes) ts) ≡ true
           → (list_any (term_says kind passes) ts ≡ true → SomePasses passes (λ term. has_term kind term ts))
           → SomePasses passes (λ term. has_term kind term (t ∷ ts))
       go true h e rest =
-          let itself : bytes_eq t.1 t.1 ≡ true = (bytes_eq-Decides t.1 t.1).1 refl in
+          let itself = (bytes_eq-Decides _ t.1).1 refl in
           let passing : passes t.1 ≡ true = grind arith in
           (t.1, passing, grind arith)
       go false h e rest = let found = rest e in (found.0, found.1, grind (arith, found.2))
@@ -125,7 +125,7 @@ module _ (kind : Kind) (n : ℕ) (passes : List ℕ → Bool) where
   term-says : (term : List ℕ) → passes term ≡ true → (ts : List Term) → has_term kind term ts ≡ true
       → list_any (term_says kind passes) ts ≡ true
   term-says term h [] e = absurd cc
-  term-says term h (t ∷ ts) e = grind (arith, bytes_eq-Decides term t.1, term-says term h ts)
+  term-says term h (t ∷ ts) e = grind (arith, bytes_eq-Decides term t.1, term-says _ h ts)
 
   -- a text that the keys have for a message passes exactly if a term of the message passes
   pub keys-at : (ms : List Message)
@@ -153,5 +153,5 @@ module _ (kind : Kind) (n : ℕ) (passes : List ℕ → Bool) where
   pub keys-say : (before : List Message) (m : Message) (after : List Message) → length before ≡ n
       → list_any passes (texts_with kind n (with_messages 0 (before ++ m ∷ after) []))
       ≡ list_any (term_says kind passes) (message_terms (text m))
-  keys-say before m after h = keys-at (before ++ m ∷ after)
-      ∙ ap (list_any (term_says kind passes)) (terms-here n before m after h)
+  keys-say before m after h = keys-at _
+      ∙ ap (list_any (term_says kind passes)) (terms-here n _ m _ h)

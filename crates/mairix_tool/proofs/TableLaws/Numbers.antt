@@ -1,5 +1,5 @@
 -- The table of archives and the messages themselves give the same numbers for a query, message by message.
-use Rattle.mairix_tool.proofs.Words.{◌≡◌, ◌∙◌, ℕ, suc, ◌+◌, Bool, List, [], ◌∷◌, ◌++◌, length, map, refl, sym, ap, append_assoc, list_any, map-append, length-map, length_push, get_or_at, fields_of, Message, text, Text, OwnId, Record, Key, Table, texts_with, facts_at, record_at, no_record, Query, is_true, facts_of, texts_of_message, Mbox, messages_in, all_messages, record_of, records_from, with_messages, Numbered, numbered_messages, facts_of_message}
+use Rattle.mairix_tool.proofs.Words.{◌≡◌, ◌∙◌, ℕ, suc, ◌+◌, Bool, List, [], ◌∷◌, ◌++◌, length, map, refl, sym, ap, append_assoc, list_any, map-append, length-map, length_push, get_or_at, fields_of, Message, text, Text, OwnId, Record, Table, texts_with, facts_at, record_at, no_record, Query, is_true, facts_of, texts_of_message, Mbox, messages_in, all_messages, record_of, records_from, with_messages, Numbered, numbered_messages, facts_of_message}
 use Rattle.mairix_tool.proofs.TableLaws.Truth.{SaysTheSame, truth-same}
 use Rattle.mairix_tool.proofs.TableLaws.Terms.{terms-say-words, terms-say-own}
 use Rattle.mairix_tool.proofs.TableLaws.Messages.{keys-say}
@@ -21,27 +21,27 @@ pub messages-numbered : (n : ℕ) (archives : List Mbox) → all_messages archiv
     ≡ map message_in (numbered_messages n archives)
 messages-numbered n [] = refl
 messages-numbered n (a ∷ archives) =
-    ap (λ (ms : List Message). messages_in a.bytes ++ ms) (messages-numbered (suc n) archives)
-    ∙ ap (λ (ms : List Message). ms ++ map message_in (numbered_messages (suc n) archives))
-    (alone (messages_in a.bytes))
-    ∙ sym (map-append message_in (map (λ m. (n, m)) (messages_in a.bytes)) (numbered_messages (suc n) archives))
+    ap (λ ms. messages_in a.bytes ++ ms) (messages-numbered (suc n) archives)
+    ∙ ap (λ ms. ms ++ map message_in (numbered_messages (suc n) archives))
+    (alone _)
+    ∙ sym (map-append _ _ _)
   where
     alone : (ms : List Message) → ms ≡ map message_in (map (λ (m : Message). (n, m)) ms)
     alone [] = refl
-    alone (m ∷ ms) = ap (λ (rest : List Message). m ∷ rest) (alone ms)
+    alone (m ∷ ms) = ap (λ rest. m ∷ rest) (alone ms)
 
 -- the records are those of the numbered messages
 pub records-numbered : (n : ℕ) (archives : List Mbox) → records_from n archives
     ≡ map record_in (numbered_messages n archives)
 records-numbered n [] = refl
 records-numbered n (a ∷ archives) =
-    ap (λ (rs : List Record). map (record_of n) (messages_in a.bytes) ++ rs) (records-numbered (suc n) archives)
-    ∙ ap (λ (rs : List Record). rs ++ map record_in (numbered_messages (suc n) archives)) (alone (messages_in a.bytes))
-    ∙ sym (map-append record_in (map (λ m. (n, m)) (messages_in a.bytes)) (numbered_messages (suc n) archives))
+    ap (λ rs. map (record_of n) (messages_in a.bytes) ++ rs) (records-numbered _ archives)
+    ∙ ap (λ rs. rs ++ map record_in (numbered_messages (suc n) archives)) (alone _)
+    ∙ sym (map-append _ _ _)
   where
     alone : (ms : List Message) → map (record_of n) ms ≡ map record_in (map (λ (m : Message). (n, m)) ms)
     alone [] = refl
-    alone (m ∷ ms) = ap (λ (rest : List Record). record_of n m ∷ rest) (alone ms)
+    alone (m ∷ ms) = ap (λ rest. record_of n m ∷ rest) (alone ms)
 
 -- ---- numbers one after another
 
@@ -59,15 +59,15 @@ facts-told : (t : Table) (n archive : ℕ) (before : List Message) (x : Message)
     → SaysTheSame (facts_at t n) (facts_of_message x)
 facts-told t n archive before x after h keys known = record {
   words = λ kind passes.
-      ap (λ (ks : List Key). list_any passes (texts_with (Text kind) n ks)) keys
-      ∙ keys-say (Text kind) n passes before x after h
+      ap (λ ks. list_any passes (texts_with (Text kind) n ks)) keys
+      ∙ keys-say (Text kind) n passes _ x _ h
       ∙ terms-say-words kind passes (texts_of_message (text x)) (facts_of (fields_of (text x)));
   own_ids = λ passes.
-      ap (λ (ks : List Key). list_any passes (texts_with OwnId n ks)) keys ∙ keys-say OwnId n passes before x after h
+      ap (λ ks. list_any passes (texts_with OwnId n ks)) keys ∙ keys-say OwnId n passes _ x _ h
       ∙ terms-say-own passes (texts_of_message (text x)) (facts_of (fields_of (text x)));
-  date = ap (λ (r : Record). r.date) known;
-  size = ap (λ (r : Record). r.size) known;
-  flags = ap (λ (r : Record). r.flags) known;
+  date = ap (λ r. r.date) known;
+  size = ap (λ r. r.size) known;
+  flags = ap (λ r. r.flags) known;
 }
 
 -- from here on, the numbers of a table pass exactly if the messages satisfy the query

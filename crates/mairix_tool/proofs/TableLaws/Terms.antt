@@ -9,19 +9,19 @@ term_says kind passes t = nat_eq (kind_number t.0) (kind_number kind) && passes 
 
 -- kinds of text with the same number are the same
 text-kinds : (j kind : TextKind) → nat_eq (kind_number (Text j)) (kind_number (Text kind)) ≡ is_kind j kind
-text-kinds j kind = grind arith
+text-kinds = grind arith
 
 -- an own id isn't a text
 own-no-text : (kind : TextKind) → nat_eq (kind_number OwnId) (kind_number (Text kind)) ≡ false
-own-no-text kind = grind arith
+own-no-text = grind arith
 
 -- a link isn't a text
 link-no-text : (kind : TextKind) → nat_eq (kind_number LinkId) (kind_number (Text kind)) ≡ false
-link-no-text kind = grind arith
+link-no-text = grind arith
 
 -- a text isn't an own id
 text-no-own : (kind : TextKind) → nat_eq (kind_number (Text kind)) (kind_number OwnId) ≡ false
-text-no-own kind = grind arith
+text-no-own = grind arith
 
 -- ---- terms of a kind
 
@@ -40,11 +40,11 @@ texts-say : (kind : TextKind) (passes : List ℕ → Bool) (texts : List Pair)
     → list_any (term_says (Text kind) passes) (flat_map text_terms texts) ≡ list_any passes (words_of kind texts)
 texts-say kind passes [] = refl
 texts-say kind passes (p ∷ ps) =
-    list_any-append (term_says (Text kind) passes) (text_terms p) (flat_map text_terms ps)
-    ∙ ap (λ (b : Bool). b || list_any (term_says (Text kind) passes) (flat_map text_terms ps))
-    (words-say kind p.0 passes (is_kind p.0 kind) (text-kinds p.0 kind) (words p.1))
-    ∙ ap (λ (b : Bool). list_any passes (if is_kind p.0 kind then map folding (words p.1) else []) || b)
-    (texts-say kind passes ps)
+    list_any-append (term_says (Text kind) passes) (text_terms p) _
+    ∙ ap (λ b. b || list_any (term_says (Text kind) passes) (flat_map text_terms ps))
+    (words-say kind _ _ _ (text-kinds _ _) _)
+    ∙ ap (λ b. list_any passes (if is_kind p.0 kind then map folding (words p.1) else []) || b)
+    (texts-say _ _ ps)
     ∙ sym (list_any-append passes (if is_kind p.0 kind then map folding (words p.1) else []) (words_of kind ps))
 
 -- no word of a text is an own id
@@ -58,9 +58,9 @@ texts-no-own : (passes : List ℕ → Bool) (texts : List Pair)
     → list_any (term_says OwnId passes) (flat_map text_terms texts) ≡ false
 texts-no-own passes [] = refl
 texts-no-own passes (p ∷ ps) =
-    list_any-append (term_says OwnId passes) (text_terms p) (flat_map text_terms ps)
-    ∙ ap (λ (b : Bool). b || list_any (term_says OwnId passes) (flat_map text_terms ps))
-    (words-no-own p.0 passes (words p.1)) ∙ texts-no-own passes ps
+    list_any-append (term_says OwnId passes) (text_terms p) _
+    ∙ ap (λ b. b || list_any (term_says OwnId passes) (flat_map text_terms ps))
+    (words-no-own p.0 _ _) ∙ texts-no-own _ ps
 
 -- no link is of a kind with another number
 pub links-say : (kind : Kind) (passes : List ℕ → Bool) → nat_eq (kind_number LinkId) (kind_number kind) ≡ false
@@ -71,12 +71,12 @@ links-say kind passes e (id ∷ ids) = grind (arith, links-say kind passes e ids
 -- an own id says nothing about a kind of text
 own-says-text : (kind : TextKind) (passes : List ℕ → Bool) (own : Option (List ℕ))
     → list_any (term_says (Text kind) passes) (own_id_terms own) ≡ false
-own-says-text kind passes own = grind (arith, own-no-text)
+own-says-text = grind (arith, own-no-text)
 
 -- about own ids it says what it is
 own-says : (passes : List ℕ → Bool) (own : Option (List ℕ)) → list_any (term_says OwnId passes) (own_id_terms own)
     ≡ list_any passes (id_list own)
-own-says passes own = grind arith
+own-says = grind arith
 
 -- ---- all terms of a message
 
@@ -86,17 +86,17 @@ pub parts-say : (kind : Kind) (passes : List ℕ → Bool) (texts : List Pair) (
     ≡ (list_any (term_says kind passes) (flat_map text_terms texts) ||
     (list_any (term_says kind passes) (own_id_terms facts.own_id) || list_any (term_says kind passes)
     (link_terms facts.ids)))
-parts-say kind passes texts facts = grind (arith, list_any-append, flat_map)
+parts-say = grind (arith, list_any-append, flat_map)
 
 -- for a kind of text, the terms say what the words of the texts of this kind say
 pub terms-say-words : (kind : TextKind) (passes : List ℕ → Bool) (texts : List Pair) (facts : Facts)
     → list_any (term_says (Text kind) passes) (flat_map text_terms texts ++ id_terms facts)
     ≡ list_any passes (words_of kind texts)
-terms-say-words kind passes texts facts =
+terms-say-words =
     grind (arith, parts-say, texts-say, own-says-text, links-say, link-no-text, or-false)
 
 -- for own ids, the terms say what the message's own id says
 pub terms-say-own : (passes : List ℕ → Bool) (texts : List Pair) (facts : Facts)
     → list_any (term_says OwnId passes) (flat_map text_terms texts ++ id_terms facts)
     ≡ list_any passes (id_list facts.own_id)
-terms-say-own passes texts facts = grind (arith, parts-say, texts-no-own, own-says, links-say, or-false)
+terms-say-own = grind (arith, parts-say, texts-no-own, own-says, links-say, or-false)

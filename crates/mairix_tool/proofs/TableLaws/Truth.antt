@@ -19,25 +19,25 @@ pub record SaysTheSame (a b : Facts) : Type 0 where
 -- tests that agree at each element agree on the list
 pub any-same : {A : Type 0} (f g : A → Bool) → ((x : A) → f x ≡ g x) → (xs : List A) → list_any f xs ≡ list_any g xs
 any-same f g same [] = refl
-any-same f g same (x ∷ xs) = ap (λ (b : Bool). b || list_any f xs) (same x)
-    ∙ ap (λ (b : Bool). g x || b) (any-same f g same xs)
+any-same f g same (x ∷ xs) = ap (λ b. b || list_any f xs) (same x)
+    ∙ ap (λ b. g x || b) (any-same f g same xs)
 
 -- a word of these kinds passes in both, or in neither
 some_word-same : (passes : List ℕ → Bool) (kinds : Kinds) (a b : Facts) → SaysTheSame a b → some_word passes kinds a
     ≡ some_word passes kinds b
-some_word-same passes kinds a b same = grind (arith, any-same)
+some_word-same = grind (arith, any-same)
 
 mutual
   -- a query is true of both, or of neither
   pub truth-same : (q : Query) (a b : Facts) → SaysTheSame a b → is_true q a ≡ is_true q b
   truth-same Any a b same = refl
-  truth-same (Word kinds text) a b same = some_word-same (bytes_eq text) kinds a b same
-  truth-same (Part kinds text) a b same = some_word-same (contains_text text) kinds a b same
+  truth-same (Word kinds text) a b same = some_word-same (bytes_eq text) _ a b same
+  truth-same (Part kinds text) a b same = some_word-same (contains_text _) kinds a b same
   truth-same (Prefix kinds text) a b same = some_word-same (word_begins_with text) kinds a b same
   truth-same (Date range) a b same = ap (has_date range) same.date
-  truth-same (Size low high) a b same = ap (λ (n : ℕ). nat_le low n && option_map_or (λ most. nat_le n most) high true)
+  truth-same (Size low high) a b same = ap (λ n. nat_le low n && option_map_or (λ most. nat_le n most) high true)
       same.size
-  truth-same (HasFlag flag wanted) a b same = ap (λ (flags : Flags). is_same wanted (has_flag flag flags)) same.flags
+  truth-same (HasFlag flag wanted) a b same = ap (λ flags. is_same wanted (has_flag flag flags)) same.flags
   truth-same (Not q) a b same = ap not (truth-same q a b same)
   truth-same (All qs) a b same = each-same qs a b same
   truth-same (Either qs) a b same = some-same qs a b same
