@@ -1,6 +1,6 @@
 -- `IndexView::open` accepts exactly the files of tables, because each walk refuses only what no table has.
 use Rattle.std.proofs.Common.{arith}
-use Rattle.mail_index.proofs.Words.{◌≡◌, true, false, sym, ◌∙◌, Fits-lt-pow}
+use Rattle.mail_index.proofs.Words.{◌≡◌, true, false, sym, ◌∙◌, Fits-lt-pow, table_of}
 use Rattle.mail_index.proofs.FileLaws.SameTable.{same-table}
 use Rattle.mail_index.proofs.FileLaws.FileLemmas.{these_archives, has_archives, has_records, these_records}
 use Rattle.mail_index.specs.declared.view.fault.IndexFault.TheVariants.{BadLayout}
@@ -77,7 +77,7 @@ returns-then-not-has_lists-clause-accepts c t f =
     absurd (no_fault _ t c.well_formed.0.0 f (BadLayout Postings) (returns-then-not-has_lists-clause-fault c))
 
 pub returns-clause-same : goal.returns-clause-same
-returns-clause-same c t f = same-table _ t _ c.well_formed.0.0 f (returns-clause-ok c)
+returns-clause-same c t f = same-table _ t (table_of c.in-Some.layout) c.well_formed.0.0 f (returns-clause-ok c)
 
 pub invariant_of-result : goal.invariant_of-result
 invariant_of-result c =
